@@ -1,0 +1,195 @@
+-- What holds of ledger, device and image between two calls of a list from a formatted device.
+use Prim.Native.Nat.{ℕ, zero, suc, _+_, _*_, _≤_, _<_}
+use mathlib.Core.Path.{_≡_, refl, ap, sym, _∙_}
+use mathlib.Core.List.{List, [], _∷_}
+use mathlib.Core.Option.{some}
+use mathlib.Core.Bool.{Bool, true, false, cond}
+use native.Mathlib.Omega.{arith}
+use lib.ListN.{length, getD, drop}
+use Rattle.model.specs.declared.Plan.{Plan}
+use Rattle.model.specs.declared.Direction.{Direction}
+use Rattle.model.specs.declared.Direction.the-variants.{AToB, BToA}
+use Rattle.model.specs.declared.Phase.{Phase}
+use Rattle.model.specs.declared.Phase.the-variants.{Cold, Ready, Writing, Recovering}
+use Rattle.model.specs.Marker.{OK, A, B, direction, completed}
+use Rattle.model.specs.Layout.{Copy, copyA, copyB, Cell, marker, byte, width, total, get}
+use Rattle.model.specs.Refusals.{Job}
+use Rattle.model.specs.Refusals as refusals
+use Rattle.model.specs.Stores.{store, source, target, stored}
+use Rattle.model.specs.Ledger.{Ledger, saving}
+use Rattle.model.specs.Calls.{Outcome, jobOf}
+use Rattle.model.proofs.Compare.{Same, equal, differ, same}
+use Rattle.model.proofs.RefusalLaws.{PlanOk}
+use Rattle.model.proofs.LayoutLaws.{InUnit, Apart, bytes-apart, Elsewhere, Near, get-put-same, get-put-cell}
+use Rattle.model.proofs.LedgerLaws.{saving-same, saving-other}
+
+-- the first n bytes of copy c of unit u are those of f
+abbrev pub Has : Plan → List ℕ → ℕ → Copy → List ℕ → ℕ → Type 0
+Has p image u c f n = (i : ℕ) → i < n → get p image u (byte c i) ≡ getD f i 0
+
+-- copy c of unit u is f
+abbrev pub Whole : Plan → List ℕ → ℕ → Copy → List ℕ → Type 0
+Whole p image u c f = Has p image u c f (width p u)
+
+abbrev pub Both : Plan → List ℕ → ℕ → List ℕ → Type 0
+Both p image u f = (c : Copy) → Whole p image u c f
+
+pub record Clean (p : Plan) (image : List ℕ) (saved : ℕ → List ℕ) (v : ℕ) : Type 0 where
+  pub mark : get p image v marker ≡ OK
+  pub both : Both p image v (saved v)
+
+-- everything but unit u, the last written
+pub record Frame (p : Plan) (before image : List ℕ) (saved : ℕ → List ℕ) (u : ℕ) : Type 0 where
+  pub size : length image ≡ length before
+  pub long : total p ≤ length image
+  pub rest : drop (total p) image ≡ drop (total p) before
+  pub unit : u < p .count
+  pub lengths : (v : ℕ) → v < p .count → length (saved v) ≡ width p v
+  pub others : (v : ℕ) → v < p .count → ¬ (v ≡ u) → Clean p image saved v
+
+-- where the saved bytes f of a unit stand after a cut that left it the marker m: in both copies, or in the one that m trusts
+pub data Safe (p : Plan) (image : List ℕ) (u m : ℕ) (f : List ℕ) : Type 0 where
+  twice : Both p image u f → Safe p image u m f
+  once : ¬ (m ≡ OK) → Whole p image u (source (direction m)) f → Safe p image u m f
+
+-- the device holds the payload that the ledger noted
+pub record Loaded (p : Plan) (noted held : List ℕ) (u : ℕ) : Type 0 where
+  pub size : length noted ≡ width p u
+  pub bytes : (i : ℕ) → i < width p u → getD held i 0 ≡ getD noted i 0
+
+-- how far the unit last written is; held is the device's payload
+pub data Stage (p : Plan) (image : List ℕ) (l : Ledger) (held : List ℕ) : Type 0 where
+  resting : l .job ≡ refusals.ready → l .marker ≡ OK → Both p image (l .unit) (l .saved (l .unit)) → Stage p image l held
+  off : l .job ≡ refusals.cold → Safe p image (l .unit) (l .marker) (l .saved (l .unit)) → Stage p image l held
+  -- a write of unit u has begun, and made no store
+  opened : (u : ℕ) → u < p .count → l .job ≡ refusals.writing u 0 → l .marker ≡ OK
+      → Both p image (l .unit) (l .saved (l .unit)) → Loaded p (l .payload) held u → Stage p image l held
+  -- j bytes of copy A are written, then of copy B
+  toA : (j : ℕ) → j ≤ width p (l .unit) → l .job ≡ refusals.writing (l .unit) (suc j) → l .marker ≡ A
+      → Whole p image (l .unit) copyB (l .saved (l .unit)) → Has p image (l .unit) copyA (l .payload) j
+      → Loaded p (l .payload) held (l .unit) → Stage p image l held
+  toB : (j : ℕ) → j ≤ width p (l .unit) → l .job ≡ refusals.writing (l .unit) (suc (width p (l .unit) + suc j)) → l .marker ≡ B
+      → l .saved (l .unit) ≡ l .payload → Whole p image (l .unit) copyA (l .payload) → Has p image (l .unit) copyB (l .payload) j
+      → Loaded p (l .payload) held (l .unit) → Stage p image l held
+  -- j bytes are copied from the good copy
+  mending : (j : ℕ) → j ≤ width p (l .unit) → l .job ≡ refusals.recovering (l .unit) j → ¬ (l .marker ≡ OK)
+      → Whole p image (l .unit) (source (direction (l .marker))) (l .saved (l .unit))
+      → Has p image (l .unit) (target (direction (l .marker))) (l .saved (l .unit)) j → Stage p image l held
+
+-- a job as a phase, with the direction that a cleanup has
+abbrev pub phased : Direction → Job → Phase
+phased d refusals.cold = Cold
+phased d refusals.ready = Ready
+phased d (refusals.writing u made) = Writing u made
+phased d (refusals.recovering u made) = Recovering u made d
+
+pub job-phased : (d : Direction) (j : Job) → jobOf (phased d j) ≡ j
+job-phased d refusals.cold = refl
+job-phased d refusals.ready = refl
+job-phased d (refusals.writing u made) = refl
+job-phased d (refusals.recovering u made) = refl
+
+-- THE INVARIANT, of the ledger and what the last call left; before is the image before format
+pub record Inv (p : Plan) (before : List ℕ) (l : Ledger) (o : Outcome) : Type 0 where
+  pub plan : o .device .plan ≡ p
+  pub phase : o .device .phase ≡ phased (direction (l .marker)) (l .job)
+  pub frame : Frame p before (o .image) (l .saved) (l .unit)
+  pub mark : get p (o .image) (l .unit) marker ≡ l .marker
+  pub stage : Stage p (o .image) l (o .device .payload)
+
+-- ---- a copy and a cell that is not of it
+abbrev pub Off : Copy → Cell → Type 0
+Off c marker = Unit
+Off copyA (byte copyA i) = ⊥
+Off copyA (byte copyB i) = Unit
+Off copyB (byte copyA i) = Unit
+Off copyB (byte copyB i) = ⊥
+
+off-elsewhere : (c : Copy) (x : Cell) (i : ℕ) → Off c x → Elsewhere x (byte c i)
+off-elsewhere c marker i h = tt
+off-elsewhere copyA (byte copyA j) i h = absurd h
+off-elsewhere copyA (byte copyB j) i h = tt
+off-elsewhere copyB (byte copyA j) i h = tt
+off-elsewhere copyB (byte copyB j) i h = absurd h
+
+pub source-off-target : (d : Direction) (i : ℕ) → Off (source d) (byte (target d) i)
+source-off-target AToB i = tt
+source-off-target BToA i = tt
+
+-- what holds of the good copy and of the other holds of both
+pub both-of : (d : Direction) (P : Copy → Type 0) → P (source d) → P (target d) → (c : Copy) → P c
+both-of AToB P g h copyA = g
+both-of AToB P g h copyB = h
+both-of BToA P g h copyA = h
+both-of BToA P g h copyB = g
+
+-- ---- a store, completed or torn, near the cell y of unit u
+module _ {p : Plan} {image image′ : List ℕ} {u : ℕ} {y : Cell} (near : Near p image image′ u y) where
+  pub has-near : (c : Copy) (f : List ℕ) (n : ℕ) → Off c y → n ≤ width p u → Has p image u c f n → Has p image′ u c f n
+  has-near c f n ho hn h i l = near .own (byte c i) (omega arith) (off-elsewhere c y i ho) ∙ h i l
+
+  pub whole-near : (c : Copy) (f : List ℕ) → Off c y → Whole p image u c f → Whole p image′ u c f
+  whole-near c f ho h = has-near c f (width p u) ho (omega arith) h
+
+  pub frame-near : (before : List ℕ) (saved : ℕ → List ℕ) → Frame p before image saved u → Frame p before image′ saved u
+  frame-near before saved h =
+      record {
+        size = near .size ∙ h .size;
+        long = omega (arith, near .size, h .long);
+        rest = near .rest ∙ h .rest;
+        unit = h .unit;
+        lengths = h .lengths;
+        others = λ v hv ne. record {
+          mark = near .others v marker ne tt ∙ h .others v hv ne .mark;
+          both = λ c i l. near .others v (byte c i) ne l ∙ h .others v hv ne .both c i l;
+        };
+      }
+
+-- a completed store that adds the next byte of a copy
+pub has-more : (p : Plan) → PlanOk p → (image : List ℕ) (u x : ℕ) (c : Copy) (f : List ℕ) (n : ℕ)
+    → u < p .count → total p ≤ length image → n < width p u → x ≡ getD f n 0
+    → Has p image u c f n → Has p (stored p image completed (some (store u (byte c n) x))) u c f (suc n)
+unfolding stored
+has-more p ok image u x c f n hu ht hn e h i l =
+    elim (same i n) [
+      | equal q ↦ rw q (get-put-same p ok image u (byte c n) x hn hu ht ∙ e)
+      | differ q ↦
+          get-put-cell p ok image u (byte c n) x hn (byte c i) (omega arith) (bytes-apart c n i q) ∙ h i (omega arith)
+    ]
+
+module _ {p : Plan} {before image : List ℕ} {saved : ℕ → List ℕ} {u : ℕ} (h : Frame p before image saved u) where
+  -- where unit u is clean too, all are
+  pub all-clean : Clean p image saved u → (v : ℕ) → v < p .count → Clean p image saved v
+  all-clean c v hv = elim (same v u) [ equal e ↦ rw e c | differ e ↦ h .others v hv e ]
+
+  -- and any other unit may be the one that is written next
+  pub frame-to : Clean p image saved u → (v : ℕ) → v < p .count → Frame p before image saved v
+  frame-to c v hv =
+      record {
+        size = h .size;
+        long = h .long;
+        rest = h .rest;
+        unit = hv;
+        lengths = h .lengths;
+        others = λ t ht ne. all-clean c t ht;
+      }
+
+  -- if t, the write passes
+  pub frame-saving : (t : Bool) (payload : List ℕ) → length payload ≡ width p u
+      → Frame p before image (cond t (saving u payload saved) saved) u
+  frame-saving false payload e = h
+  frame-saving true payload e =
+      record {
+        size = h .size;
+        long = h .long;
+        rest = h .rest;
+        unit = h .unit;
+        lengths = λ v hv. elim (same v u) [
+          | equal q ↦ rw (q, saving-same u payload saved) e
+          | differ q ↦ rw (saving-other u v payload saved q) (h .lengths v hv)
+        ];
+        others = λ v hv ne. record {
+          mark = h .others v hv ne .mark;
+          both = λ c. rw (saving-other u v payload saved ne) (h .others v hv ne .both c);
+        };
+      }

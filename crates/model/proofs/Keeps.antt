@@ -1,0 +1,475 @@
+-- Each call keeps the invariant and answers what the ledger tells.
+-- A step and a cut end the same store, completed or torn, so each of the seven kinds of store is gone through once, for both.
+use Prim.Native.Nat.{ℕ, zero, suc, _+_, _-_, _*_, _≤_, _<_}
+use mathlib.Core.Path.{_≡_, refl, ap, ap₂, sym, _∙_, subst₂}
+use mathlib.Core.List.{List, [], _∷_, _++_}
+use mathlib.Core.Option.{some}
+use mathlib.Core.Bool.{Bool, true, false, cond, not, true≢false}
+use native.Mathlib.Omega.{arith}
+use lib.Dec.{eqb}
+use lib.ListN.{length, getD, replicate, List·getD-append}
+use borrow.Author.Tests.{eq-eqb, ne-eqb, le-ltb}
+use Rattle.model.specs.declared.Plan.{Plan}
+use Rattle.model.specs.declared.Direction.{Direction}
+use Rattle.model.specs.declared.Direction.the-variants.{AToB}
+use Rattle.model.specs.declared.Phase.{Phase}
+use Rattle.model.specs.declared.Phase.the-variants.{Cold, Ready, Writing, Recovering}
+use Rattle.model.specs.Marker.{OK, A, B, direction, End, completed, tornBy, markerLeft, torn}
+use Rattle.model.specs.Layout.{Copy, copyA, copyB, marker, byte, width, total, get}
+use Rattle.model.specs.Refusals.{Job, View, isCold, isReady, stepNumber}
+use Rattle.model.specs.Refusals as refusals
+use Rattle.model.specs.Stores.{Store, store, source, target, stored}
+use Rattle.model.specs.Calls.{Device, Outcome, outcome, asBegun, asStepped, asWoken, asCut, view, jobOf, next, imageAfter, phaseAfter, cleanupFrom}
+use Rattle.model.specs.Calls as calls
+use Rattle.model.specs.Ledger.{Ledger, Call, begin, step, cut, wake, markerOf, judged, told, saving, accepted, fed}
+use Rattle.model.specs.Ledger as ledger
+use Rattle.model.specs.PowerCut.{call}
+use Rattle.model.proofs.Compare.{Order, below, above, order, Same, equal, differ, same}
+use Rattle.model.proofs.RefusalLaws.{PlanOk, width-bounds, Alike, step-alike, cut-alike, wake-alike, begin-alike, step-cold, step-ready, wake-says, begin-says, Began}
+use Rattle.model.proofs.LayoutLaws.{Near, stored-near, stored-marker}
+use Rattle.model.proofs.MarkerLaws.{torn-A-to-B, direction-A, direction-other}
+use Rattle.model.proofs.StoreLaws.{next-A, next-to-A, next-B, next-to-B, next-OK, next-copy, next-settle, write-goes-on, write-ends, cleanup-goes-on, cleanup-ends, none-found, lowest-found}
+use Rattle.model.proofs.LedgerLaws.{at, noted, then, decides, own-marker, saving-same, notes-A, notes-byte, notes-B, notes-OK, notes-copy, notes-settle}
+use Rattle.model.proofs.Invariant.{Has, Whole, Both, Clean, Frame, Safe, twice, once, Loaded, Stage, resting, off, opened, toA, toB, mending, phased, job-phased, Inv, source-off-target, both-of, has-near, whole-near, frame-near, has-more, all-clean, frame-to, frame-saving}
+
+module _ (p : Plan) (ok : PlanOk p) (before : List ℕ) (l : Ledger) (o : Outcome) (inv : Inv p before l o) where
+  abbrev d : Device
+  d = o .device
+
+  abbrev image : List ℕ
+  image = o .image
+
+  -- the unit last written, its width and its saved bytes
+  abbrev u : ℕ
+  u = l .unit
+
+  abbrev w : ℕ
+  w = width p (l .unit)
+
+  abbrev f : List ℕ
+  f = l .saved (l .unit)
+
+  abbrev frame : Frame p before (o .image) (l .saved) (l .unit)
+  frame = inv .frame
+
+  -- the ledger's marker of every unit is the image's
+  marker-agrees : (v : ℕ) → v < p .count → get p image v marker ≡ markerOf l v
+  unfolding markerOf
+  marker-agrees v h =
+      elim (same v u) [
+        | equal e ↦ rw (eq-eqb v u e) (rw e (inv .mark))
+        | differ e ↦ rw (ne-eqb v u e) (frame .others v h e .mark)
+      ]
+
+  -- ---- the next store, completed by a step or torn by a cut
+  abbrev ended : End → Outcome
+  ended completed =
+      outcome 0 (asStepped (phaseAfter (d .plan) (imageAfter completed d image) (d .phase)) d) (imageAfter completed d image)
+  ended (tornBy m) = outcome 0 (asCut d) (imageAfter (tornBy m) d image)
+
+  abbrev Kept : End → Type 0
+  Kept e = Inv p before (noted p l e) (ended e)
+
+  -- after it: the ledger is at job j, or Cold, with unit v last written, its marker mk and the saved bytes sv
+  module _ (s : Store) (phase : Phase) (v : ℕ) (j : Job) (mk : End → ℕ) (sv : End → ℕ → List ℕ)
+      (is : d .phase ≡ phase) (comes : next p (d .payload) image phase ≡ some s)
+      (notes : (e : End) → noted p l e ≡ at l (then e j) v (mk e) (sv e)) where
+    image-is : (e : End) → imageAfter e d image ≡ stored p image e (some s)
+    unfolding imageAfter
+    image-is e = rw (inv .plan, is, comes)
+
+    step-is : ended completed
+        ≡ outcome 0 (asStepped (phaseAfter p (stored p image completed (some s)) phase) d) (stored p image completed (some s))
+    step-is = rw (image-is completed, is, inv .plan)
+
+    cut-is : (m : ℕ) → ended (tornBy m) ≡ outcome 0 (asCut d) (stored p image (tornBy m) (some s))
+    cut-is m = rw (image-is (tornBy m))
+
+    by-store : phaseAfter p (stored p image completed (some s)) phase ≡ phased (direction (mk completed)) j
+        → ((e : End) → Frame p before (stored p image e (some s)) (sv e) v)
+        → ((e : End) → get p (stored p image e (some s)) v marker ≡ mk e)
+        → Stage p (stored p image completed (some s)) (at l j v (mk completed) (sv completed)) (d .payload)
+        → ((e : End) → Safe p (stored p image e (some s)) v (mk e) (sv e v))
+        → (e : End) → Kept e
+    by-store goes fr mark stage safe completed =
+        subst₂ (λ (x : Ledger) (y : Outcome). Inv p before x y) (sym (notes completed)) (sym step-is)
+        (record { plan = inv .plan; phase = goes; frame = fr completed; mark = mark completed; stage = stage })
+    by-store goes fr mark stage safe (tornBy m) =
+        subst₂ (λ (x : Ledger) (y : Outcome). Inv p before x y) (sym (notes (tornBy m))) (sym (cut-is m))
+        (record {
+          plan = inv .plan;
+          phase = refl;
+          frame = fr (tornBy m);
+          mark = mark (tornBy m);
+          stage = off refl (safe (tornBy m));
+        })
+
+  phase-is : (j : Job) → l .job ≡ j → d .phase ≡ phased (direction (l .marker)) j
+  phase-is j e = inv .phase ∙ ap (phased (direction (l .marker))) e
+
+  -- a store of unit u: its own marker is the ledger's
+  own : {x : Ledger} (j : Job) (mk : ℕ → ℕ) (sv : ℕ → ℕ → List ℕ)
+      → x ≡ at l j u (mk (markerOf l u)) (sv (markerOf l u)) → x ≡ at l j u (mk (l .marker)) (sv (l .marker))
+  own j mk sv e = e ∙ ap (λ (m : ℕ). at l j u (mk m) (sv m)) (own-marker l)
+
+  -- the marker's store of unit u leaves what the ledger notes
+  own-mark : (e : End) (code : ℕ)
+      → get p (stored p image e (some (store u marker code))) u marker ≡ markerLeft e (l .marker) code
+  own-mark e code =
+      stored-marker p ok image e u code (frame .unit) (frame .long) ∙ ap (λ (m : ℕ). markerLeft e m code) (inv .mark)
+
+  -- 1: marker A
+  store-A : (v : ℕ) → v < p .count → l .job ≡ refusals.writing v 0 → l .marker ≡ OK → Both p image u f
+      → Loaded p (l .payload) (d .payload) v → (e : End) → Kept e
+  store-A v hv job mk both loaded =
+      by-store (store v marker A) (Writing v 0) v (refusals.writing v 1) (λ e. markerLeft e (markerOf l v) A) (λ e. l .saved)
+      (phase-is _ job) (next-A p (d .payload) image v) (notes-A p l v 0 job refl)
+      (write-goes-on p _ v 0 (omega arith))
+      (λ e. frame-near (near e) before (l .saved) (frame-to frame clean v hv))
+      (λ e. stored-marker p ok image e v A hv (frame .long) ∙ ap (λ (m : ℕ). markerLeft e m A) (marker-agrees v hv))
+      (toA 0 (omega arith) refl refl (still completed copyB) (λ i q. absurd (omega arith)) loaded)
+      (λ e. twice (still e))
+    where
+      clean : Clean p image (l .saved) u
+      clean = record { mark = inv .mark ∙ mk; both = both }
+
+      near : (e : End) → Near p image (stored p image e (some (store v marker A))) v marker
+      near e = stored-near p ok image e v A hv marker tt
+
+      still : (e : End) → Both p (stored p image e (some (store v marker A))) v (l .saved v)
+      still e c = whole-near (near e) c (l .saved v) tt (all-clean frame clean v hv .both c)
+
+  -- 2: the bytes of copy A
+  store-to-A : (j : ℕ) → j < w → l .job ≡ refusals.writing u (suc j) → l .marker ≡ A → Whole p image u copyB f
+      → Has p image u copyA (l .payload) j → Loaded p (l .payload) (d .payload) u → (e : End) → Kept e
+  store-to-A j h job mk hb ha loaded =
+      by-store s (Writing u (suc j)) u (refusals.writing u (suc (suc j))) (λ e. l .marker) (λ e. l .saved)
+      (phase-is _ job) (next-to-A p (d .payload) image u j h)
+      (λ e. own _ (λ m. m) (λ m. l .saved) (notes-byte p l u (suc j) job (omega arith) (omega arith) (omega arith) e))
+      (write-goes-on p _ u (suc j) (omega arith))
+      (λ e. frame-near (near e) before (l .saved) frame)
+      (λ e. near e .own marker tt tt ∙ inv .mark)
+      (toA (suc j) h refl mk (still completed)
+      (has-more p ok image u _ copyA (l .payload) j (frame .unit) (frame .long) h (loaded .bytes j h) ha) loaded)
+      (λ e. once (omega arith) (rw (direction-A (l .marker) mk) (still e)))
+    where
+      s : Store
+      s = store u (byte copyA j) (getD (d .payload) j 0)
+
+      near : (e : End) → Near p image (stored p image e (some s)) u (byte copyA j)
+      near e = stored-near p ok image e u _ (frame .unit) (byte copyA j) h
+
+      still : (e : End) → Whole p (stored p image e (some s)) u copyB f
+      still e = whole-near (near e) copyB f tt hb
+
+  -- 3: marker B, the store that decides: the write passes unless it leaves A
+  store-B : l .job ≡ refusals.writing u (suc w) → l .marker ≡ A → Whole p image u copyB f → Whole p image u copyA (l .payload)
+      → Loaded p (l .payload) (d .payload) u → (e : End) → Kept e
+  store-B job mk hb ha loaded =
+      by-store (store u marker B) (Writing u (suc w)) u (refusals.writing u (suc (suc w))) left (λ e. kept e (left e))
+      (phase-is _ job) (next-B p (d .payload) image u)
+      (λ e. own _ (λ m. markerLeft e m B) (λ m. kept e (markerLeft e m B)) (notes-B p l u (suc w) job (omega arith) e))
+      (write-goes-on p _ u (suc w) (omega arith))
+      (λ e. frame-near (near e) before (kept e (left e)) (frame-saving frame (decides e (left e)) (l .payload) (loaded .size)))
+      (λ e. own-mark e B)
+      (toB 0 (omega arith) (ap (refusals.writing u) (omega arith)) refl (saving-same u (l .payload) (l .saved))
+      (new completed) (λ i q. absurd (omega arith)) loaded)
+      decided
+    where
+      left : End → ℕ
+      left e = markerLeft e (l .marker) B
+
+      kept : End → ℕ → ℕ → List ℕ
+      kept e x = cond (decides e x) (saving u (l .payload) (l .saved)) (l .saved)
+
+      near : (e : End) → Near p image (stored p image e (some (store u marker B))) u marker
+      near e = stored-near p ok image e u B (frame .unit) marker tt
+
+      old : (e : End) → Whole p (stored p image e (some (store u marker B))) u copyB f
+      old e = whole-near (near e) copyB f tt hb
+
+      new : (e : End) → Whole p (stored p image e (some (store u marker B))) u copyA (l .payload)
+      new e = whole-near (near e) copyA (l .payload) tt ha
+
+      After : End → Type 0
+      After e = Safe p (stored p image e (some (store u marker B))) u (left e) (kept e (left e) u)
+
+      passed : (e : End) → ¬ (left e ≡ OK) → ¬ (left e ≡ A) → decides e (left e) ≡ true → After e
+      passed e h q t =
+          rw (t, saving-same u (l .payload) (l .saved)) (once h (rw (direction-other (left e) q) (new e)))
+
+      tore : (m : ℕ) → ¬ (left (tornBy m) ≡ OK) → Same (left (tornBy m)) A → After (tornBy m)
+      tore m h (equal q) =
+          rw (eq-eqb (left (tornBy m)) A q) (once h (rw (direction-A (left (tornBy m)) q) (old (tornBy m))))
+      tore m h (differ q) = passed (tornBy m) h q (rw (ne-eqb (left (tornBy m)) A q))
+
+      decided : (e : End) → After e
+      decided completed = passed completed (omega arith) (omega arith) refl
+      decided (tornBy m) = tore m (rw mk (torn-A-to-B m)) (same (left (tornBy m)) A)
+
+  -- 4: the bytes of copy B
+  store-to-B : (j : ℕ) → j < w → l .job ≡ refusals.writing u (suc (w + suc j)) → l .marker ≡ B → f ≡ l .payload
+      → Whole p image u copyA (l .payload) → Has p image u copyB (l .payload) j → Loaded p (l .payload) (d .payload) u
+      → (e : End) → Kept e
+  store-to-B j h job mk sv ha hb loaded =
+      by-store s (Writing u made) u (refusals.writing u (suc made)) (λ e. l .marker) (λ e. l .saved)
+      (phase-is _ job) (next-to-B p (d .payload) image u j h)
+      (λ e. own _ (λ m. m) (λ m. l .saved) (notes-byte p l u made job (omega arith) (omega arith) (omega arith) e))
+      (write-goes-on p _ u made (omega arith))
+      (λ e. frame-near (near e) before (l .saved) frame)
+      (λ e. near e .own marker tt tt ∙ inv .mark)
+      (toB (suc j) h (ap (refusals.writing u) (omega arith)) mk sv (still completed)
+      (has-more p ok image u _ copyB (l .payload) j (frame .unit) (frame .long) h (loaded .bytes j h) hb) loaded)
+      (λ e. once (omega arith) (rw (direction-other (l .marker) (omega arith), sv) (still e)))
+    where
+      made : ℕ
+      made = suc (w + suc j)
+
+      s : Store
+      s = store u (byte copyB j) (getD (d .payload) j 0)
+
+      near : (e : End) → Near p image (stored p image e (some s)) u (byte copyB j)
+      near e = stored-near p ok image e u _ (frame .unit) (byte copyB j) h
+
+      still : (e : End) → Whole p (stored p image e (some s)) u copyA (l .payload)
+      still e = whole-near (near e) copyA (l .payload) tt ha
+
+  -- both copies stay whole under a store of the marker
+  both-stay : (e : End) (code : ℕ) → Both p image u f → Both p (stored p image e (some (store u marker code))) u f
+  both-stay e code h c = whole-near (stored-near p ok image e u code (frame .unit) marker tt) c f tt (h c)
+
+  -- 5, and 7 below: marker OK, with both copies whole
+  store-OK : (phase : Phase) → d .phase ≡ phase → next p (d .payload) image phase ≡ some (store u marker OK)
+      → ((e : End) → noted p l e ≡ at l (then e refusals.ready) u (markerLeft e (markerOf l u) OK) (l .saved))
+      → phaseAfter p (stored p image completed (some (store u marker OK))) phase ≡ Ready
+      → Both p image u f → (e : End) → Kept e
+  store-OK phase is comes notes goes both =
+      by-store (store u marker OK) phase u refusals.ready (λ e. markerLeft e (l .marker) OK) (λ e. l .saved)
+      is comes (λ e. own _ (λ m. markerLeft e m OK) (λ m. l .saved) (notes e)) goes
+      (λ e. frame-near (stored-near p ok image e u OK (frame .unit) marker tt) before (l .saved) frame)
+      (λ e. own-mark e OK)
+      (resting refl refl (both-stay completed OK both))
+      (λ e. twice (both-stay e OK both))
+
+  write-done : l .job ≡ refusals.writing u (suc (w + suc w)) → f ≡ l .payload → Whole p image u copyA (l .payload)
+      → Whole p image u copyB (l .payload) → (e : End) → Kept e
+  write-done job sv ha hb =
+      store-OK (Writing u made) (phase-is _ job) (next-OK p (d .payload) image u) (notes-OK p l u made job (omega arith))
+      (write-ends p _ u made (omega arith)) (rw sv (both-of AToB (λ c. Whole p image u c (l .payload)) ha hb))
+    where
+      made : ℕ
+      made = suc (w + suc w)
+
+  -- ---- a cleanup, by the direction of the ledger's marker
+  abbrev way : Direction
+  way = direction (l .marker)
+
+  -- 6: the bytes of the copy that isn't trusted
+  store-copy : (j : ℕ) → j < w → l .job ≡ refusals.recovering u j → ¬ (l .marker ≡ OK) → Whole p image u (source way) f
+      → Has p image u (target way) f j → (e : End) → Kept e
+  store-copy j h job mk hs ht =
+      by-store s (Recovering u j way) u (refusals.recovering u (suc j)) (λ e. l .marker) (λ e. l .saved)
+      (phase-is _ job) (next-copy p (d .payload) image u way j h)
+      (λ e. own _ (λ m. m) (λ m. l .saved) (notes-copy p l u j job h e))
+      (cleanup-goes-on p _ u j way (omega arith))
+      (λ e. frame-near (near e) before (l .saved) frame)
+      (λ e. near e .own marker tt tt ∙ inv .mark)
+      (mending (suc j) h refl mk (still completed)
+      (has-more p ok image u _ (target way) f j (frame .unit) (frame .long) h (hs j h) ht))
+      (λ e. once mk (still e))
+    where
+      s : Store
+      s = store u (byte (target way) j) (get p image u (byte (source way) j))
+
+      near : (e : End) → Near p image (stored p image e (some s)) u (byte (target way) j)
+      near e = stored-near p ok image e u _ (frame .unit) (byte (target way) j) h
+
+      still : (e : End) → Whole p (stored p image e (some s)) u (source way) f
+      still e = whole-near (near e) (source way) f (source-off-target way j) hs
+
+  -- 7: no higher unit needs a cleanup
+  cleanup-done : l .job ≡ refusals.recovering u w → Whole p image u (source way) f → Whole p image u (target way) f
+      → (e : End) → Kept e
+  cleanup-done job hs ht =
+      store-OK (Recovering u w way) (phase-is _ job) (next-settle p (d .payload) image u way) (notes-settle p l u w job refl)
+      (cleanup-ends p _ u w way (omega arith)
+      ∙ none-found p _ (p .count - suc u) (suc u)
+      (λ v i q.
+      near .others v marker (omega arith) tt ∙ frame .others v (omega (arith, frame .unit)) (omega arith) .mark))
+      (both-of way (λ c. Whole p image u c f) hs ht)
+    where
+      near : Near p image (stored p image completed (some (store u marker OK))) u marker
+      near = stored-near p ok image completed u OK (frame .unit) marker tt
+
+  -- ---- whatever is under way; in Ready and Cold there is no store
+  module _ (e : End) (in-ready : l .job ≡ refusals.ready → l .marker ≡ OK → Both p image u f → Kept e)
+      (in-cold : l .job ≡ refusals.cold → Safe p image u (l .marker) f → Kept e) where
+    by-stage : Stage p image l (d .payload) → Kept e
+    by-stage (resting job mk both) = in-ready job mk both
+    by-stage (off job safe) = in-cold job safe
+    by-stage (opened v hv job mk both loaded) = store-A v hv job mk both loaded e
+    by-stage (toA j hj job mk hb ha loaded) =
+        elim (order j w) [
+          | below h ↦ store-to-A j h job mk hb ha loaded e
+          | above h ↦
+              let q : j ≡ w = omega arith in
+              store-B (job ∙ ap (λ (n : ℕ). refusals.writing u (suc n)) q) mk hb (rw q at ha) loaded e
+        ]
+    by-stage (toB j hj job mk sv ha hb loaded) =
+        elim (order j w) [
+          | below h ↦ store-to-B j h job mk sv ha hb loaded e
+          | above h ↦
+              let q : j ≡ w = omega arith in
+              write-done (job ∙ ap (λ (n : ℕ). refusals.writing u (suc (w + suc n))) q) sv ha (rw q at hb) e
+        ]
+    by-stage (mending j hj job mk hs ht) =
+        elim (order j w) [
+          | below h ↦ store-copy j h job mk hs ht e
+          | above h ↦
+              let q : j ≡ w = omega arith in
+              cleanup-done (job ∙ ap (refusals.recovering u) q) hs (rw q at ht) e
+        ]
+
+  -- ---- step
+  refused-not : {X : Type 0} (n : ℕ) → n ≡ 0 → n ≡ 5 → X
+  refused-not n e f = absurd (omega arith)
+
+  step-kept : stepNumber (judged p l) ≡ 0 → Kept completed
+  step-kept e =
+      by-stage completed
+      (λ job mk both. refused-not (stepNumber (judged p l)) e (step-ready (judged p l) ok refl job))
+      (λ job safe. refused-not (stepNumber (judged p l)) e (step-cold (judged p l) ok refl job))
+      (inv .stage)
+
+  -- ---- cut
+  cut-kept : (m : ℕ) → Kept (tornBy m)
+  unfolding accepted imageAfter stored next
+  cut-kept m =
+      by-stage (tornBy m)
+      (λ job mk both. idle refusals.ready job refl refl (twice both))
+      (λ job safe. idle refusals.cold job refl refl safe)
+      (inv .stage)
+    where
+      idle : (j : Job) → l .job ≡ j → stored p image (tornBy m) (next p (d .payload) image (phased way j)) ≡ image
+          → ledger.wasCut p l m j ≡ ledger.noted l refusals.cold (l .payload)
+          → Safe p image u (l .marker) f → Kept (tornBy m)
+      idle j job nothing then-cold safe =
+          let notes : noted p l (tornBy m) ≡ ledger.noted l refusals.cold (l .payload) =
+          ap (ledger.wasCut p l m) job ∙ then-cold in
+          let stays : imageAfter (tornBy m) d image ≡ image = rw (inv .plan, phase-is j job) nothing in
+          subst₂ (λ (x : Ledger) (y : List ℕ). Inv p before x (outcome 0 (asCut d) y)) (sym notes) (sym stays)
+          (record { plan = inv .plan; phase = refl; frame = frame; mark = inv .mark; stage = off refl safe })
+
+  -- ---- wake
+  abbrev Woken : Type 0
+  Woken = Inv p before (accepted p l wake) (outcome 0 (asWoken (cleanupFrom (d .plan) image 0) d) image)
+
+  -- the ledger is at job j, and the cleanup that was found is its phase
+  woken-as : (j : Job) → accepted p l wake ≡ ledger.noted l j (l .payload)
+      → cleanupFrom p image 0 ≡ phased way j → Stage p image (ledger.noted l j (l .payload)) (d .payload) → Woken
+  woken-as j e goes stage =
+      subst₂ (λ (x : Ledger) (y : Plan). Inv p before x (outcome 0 (asWoken (cleanupFrom y image 0) d) image))
+      (sym e) (sym (inv .plan))
+      (record { plan = inv .plan; phase = goes; frame = frame; mark = inv .mark; stage = stage })
+
+  wake-off : Safe p image u (l .marker) f → Same (l .marker) OK → Woken
+  unfolding accepted
+  wake-off safe (equal q) =
+      woken-as refusals.ready (rw (eq-eqb (l .marker) OK q))
+      (none-found p image (p .count - 0) 0
+      (λ v i h.
+      elim (same v u) [ equal t ↦ rw t (inv .mark ∙ q) | differ t ↦ frame .others v (omega arith) t .mark ]))
+      (resting refl q (whole safe))
+    where
+      whole : Safe p image u (l .marker) f → Both p image u f
+      whole (twice h) = h
+      whole (once ne h) = absurd (ne q)
+  wake-off safe (differ q) =
+      woken-as (refusals.recovering u 0) (rw (ne-eqb (l .marker) OK q))
+      (lowest-found p image (p .count - 0) 0 u (omega arith) (omega (arith, frame .unit))
+      (λ v i h. frame .others v (omega (arith, frame .unit)) (omega arith) .mark) (rw (inv .mark) q)
+      ∙ ap (λ (m : ℕ). Recovering u 0 (direction m)) (inv .mark))
+      (mending 0 (omega arith) refl q (trusted safe) (λ i h. absurd (omega arith)))
+    where
+      trusted : Safe p image u (l .marker) f → Whole p image u (source way) f
+      trusted (twice h) = h (source way)
+      trusted (once ne h) = h
+
+  -- a stage of another job than the ledger's
+  other-job : {X : Type 0} (test : Job → Bool) (j k : Job) → l .job ≡ j → l .job ≡ k → test j ≡ true → test k ≡ false → X
+  other-job test j k e f t s = absurd (true≢false (sym t ∙ ap test (sym e ∙ f) ∙ s))
+
+  wake-kept : l .job ≡ refusals.cold → Woken
+  wake-kept e = go (inv .stage)
+    where
+      go : Stage p image l (d .payload) → Woken
+      go (resting job mk both) = other-job isCold _ _ e job refl refl
+      go (off job safe) = wake-off safe (same (l .marker) OK)
+      go (opened v hv job mk both loaded) = other-job isCold _ _ e job refl refl
+      go (toA j hj job mk hb ha loaded) = other-job isCold _ _ e job refl refl
+      go (toB j hj job mk sv ha hb loaded) = other-job isCold _ _ e job refl refl
+      go (mending j hj job mk hs ht) = other-job isCold _ _ e job refl refl
+
+  -- ---- begin
+  begin-kept : (v : ℕ) (payload : List ℕ) → Began (judged p l) v payload
+      → Inv p before (accepted p l (begin v payload)) (outcome 0 (asBegun v payload d) image)
+  unfolding accepted
+  begin-kept v payload began = go (inv .stage)
+    where
+      loaded : Loaded p payload (asBegun v payload d .payload) v
+      loaded =
+          record {
+            size = began .size;
+            bytes = λ i h. List·getD-append payload (replicate (256 - length payload) 0) 0 i (omega (arith, began .size));
+          }
+
+      go : Stage p image l (d .payload)
+          → Inv p before (accepted p l (begin v payload)) (outcome 0 (asBegun v payload d) image)
+      go (resting job mk both) =
+          record {
+            plan = inv .plan;
+            phase = refl;
+            frame = frame;
+            mark = inv .mark;
+            stage = opened v (began .unit) refl mk both loaded;
+          }
+      go (off job safe) = other-job isReady _ _ (began .job) job refl refl
+      go (opened t ht job mk both ld) = other-job isReady _ _ (began .job) job refl refl
+      go (toA j hj job mk hb ha ld) = other-job isReady _ _ (began .job) job refl refl
+      go (toB j hj job mk sv ha hb ld) = other-job isReady _ _ (began .job) job refl refl
+      go (mending j hj job mk hs ht) = other-job isReady _ _ (began .job) job refl refl
+
+  -- ---- the answers: device and ledger are judged alike
+  alike : Alike (view d image) (judged p l)
+  alike =
+      record {
+        plan = inv .plan;
+        short = rw (inv .plan) (le-ltb (length image) (total p) (frame .long));
+        job = ap jobOf (inv .phase) ∙ job-phased way (l .job);
+        marker = λ v h. rw (inv .plan) (marker-agrees v h);
+      }
+
+  -- a call answers n, and then the ledger is at next
+  pub record Agrees (n : ℕ) (next : Ledger) (r : Outcome) : Type 0 where
+    pub answer : r .number ≡ n
+    pub kept : Inv p before (ledger.unlessRefused n l next) r
+
+  settle : (n n′ : ℕ) (next : Ledger) (done : Outcome) → n ≡ n′ → done .number ≡ 0
+      → (n′ ≡ 0 → Inv p before next done) → Agrees n′ next (calls.unlessRefused n d image done)
+  settle n n′ next done e z h = rw e (go n′ h)
+    where
+      go : (n′ : ℕ) → (n′ ≡ 0 → Inv p before next done) → Agrees n′ next (calls.unlessRefused n′ d image done)
+      go zero h = record { answer = z; kept = h refl }
+      go (suc n′) h =
+          record {
+            answer = refl;
+            kept = record { plan = inv .plan; phase = inv .phase; frame = frame; mark = inv .mark; stage = inv .stage };
+          }
+
+  pub keeps : (c : Call) → Agrees (told p l c) (accepted p l c) (call c o)
+  unfolding call calls.begin calls.step calls.cut calls.wake told
+  keeps (begin v payload) =
+      settle _ _ _ _ (begin-alike alike v payload) refl (λ h. begin-kept v payload (begin-says (judged p l) v payload h))
+  keeps step = settle _ _ _ _ (step-alike alike) refl step-kept
+  keeps (cut m) = settle _ _ _ _ (cut-alike alike) refl (λ h. cut-kept m)
+  keeps wake = settle _ _ _ _ (wake-alike alike) refl (λ h. wake-kept (wake-says (judged p l) h))

@@ -1,0 +1,125 @@
+-- What the ledger notes of each store: by the store's number, the unit's marker and whether the write passes.
+use Prim.Native.Nat.{ℕ, zero, suc, _+_, _*_, _<_}
+use mathlib.Core.Path.{_≡_, refl, ap, ap₂, sym, _∙_}
+use mathlib.Core.List.{List}
+use mathlib.Core.Bool.{Bool, true, false, cond, not, _&&_}
+use native.Mathlib.Omega.{arith}
+use lib.Dec.{eqb}
+use borrow.Author.Tests.{eq-eqb, ne-eqb}
+use Rattle.model.specs.declared.Plan.{Plan}
+use Rattle.model.specs.Marker.{OK, A, B, End, completed, tornBy, markerLeft}
+use Rattle.model.specs.Layout.{width}
+use Rattle.model.specs.Refusals.{Job, cold, ready, writing, recovering}
+use Rattle.model.specs.Ledger.{Ledger, Call, step, cut, markerOf, writeMarker, cleanupMarker, passes, saving, wrote, cleaned, accepted}
+
+-- the ledger at job j with unit u last written, its marker m
+abbrev pub at : Ledger → Job → ℕ → ℕ → (ℕ → List ℕ) → Ledger
+at l j u m saved = record { job = j; payload = l .payload; unit = u; marker = m; saved = saved }
+
+-- what the ledger notes of the next store, completed by a step or torn by a cut
+abbrev pub noted : Plan → Ledger → End → Ledger
+noted p l completed = accepted p l step
+noted p l (tornBy m) = accepted p l (cut m)
+
+-- the job after a store after which a step goes on with j
+abbrev pub then : End → Job → Job
+then completed j = j
+then (tornBy m) j = cold
+
+-- whether a write passes at its store w + 2, which leaves x
+abbrev pub decides : End → ℕ → Bool
+decides completed x = true
+decides (tornBy m) x = not (eqb x A)
+
+-- and at no other store
+passes-not : (w n : ℕ) (e : End) (x : ℕ) → ¬ (n ≡ w + 2) → passes w n e x ≡ false
+passes-not w n completed x h = ne-eqb n (w + 2) h
+passes-not w n (tornBy m) x h = rw (ne-eqb n (w + 2) h)
+
+passes-here : (w n : ℕ) (e : End) (x : ℕ) → n ≡ w + 2 → passes w n e x ≡ decides e x
+passes-here w n completed x h = eq-eqb n (w + 2) h
+passes-here w n (tornBy m) x h = rw (eq-eqb n (w + 2) h)
+
+pub own-marker : (l : Ledger) → markerOf l (l .unit) ≡ l .marker
+unfolding markerOf
+own-marker l = rw (eq-eqb (l .unit) (l .unit) refl, markerOf)
+
+pub saving-same : (u : ℕ) (payload : List ℕ) (saved : ℕ → List ℕ) → saving u payload saved u ≡ payload
+unfolding saving
+saving-same u payload saved = rw (eq-eqb u u refl, saving)
+
+pub saving-other : (u v : ℕ) (payload : List ℕ) (saved : ℕ → List ℕ) → ¬ (v ≡ u) → saving u payload saved v ≡ saved v
+unfolding saving
+saving-other u v payload saved h = rw (ne-eqb v u h, saving)
+
+module _ (p : Plan) (l : Ledger) (u made : ℕ) (is : l .job ≡ writing u made) where
+  abbrev w : ℕ
+  w = width p u
+
+  -- a write's store, the job after it not yet told
+  step-writes : (j : Job) → cond (eqb (suc made) (2 * w + 3)) ready (writing u (suc made)) ≡ j → (e : End)
+      → noted p l e ≡ wrote p l u (suc made) e (then e j)
+  unfolding accepted
+  step-writes j h completed = rw (is, h)
+  step-writes j h (tornBy m) = rw is
+
+  goes-on : ¬ (suc made ≡ 2 * w + 3) → cond (eqb (suc made) (2 * w + 3)) ready (writing u (suc made)) ≡ writing u (suc made)
+  goes-on h = rw (ne-eqb (suc made) (2 * w + 3) h)
+
+  pub notes-A : made ≡ 0 → (e : End)
+      → noted p l e ≡ at l (then e (writing u 1)) u (markerLeft e (markerOf l u) A) (l .saved)
+  unfolding writeMarker
+  notes-A h e =
+      step-writes (writing u 1) (goes-on (omega arith) ∙ ap (λ (n : ℕ). writing u (suc n)) h) e
+      ∙ rw (passes-not w (suc made) e _ (omega arith), eq-eqb (suc made) 1 (omega arith))
+
+  pub notes-byte : ¬ (made ≡ 0) → ¬ (made ≡ w + 1) → made < 2 * w + 2 → (e : End)
+      → noted p l e ≡ at l (then e (writing u (suc made))) u (markerOf l u) (l .saved)
+  unfolding writeMarker
+  notes-byte h₁ h₂ h₃ e =
+      step-writes (writing u (suc made)) (goes-on (omega arith)) e
+      ∙ rw (
+        passes-not w (suc made) e _ (omega arith),
+        ne-eqb (suc made) 1 (omega arith),
+        ne-eqb (suc made) (w + 2) (omega arith),
+        ne-eqb (suc made) (2 * w + 3) (omega arith),
+      )
+
+  pub notes-B : made ≡ w + 1 → (e : End)
+      → noted p l e
+      ≡ at l (then e (writing u (suc made))) u (markerLeft e (markerOf l u) B)
+      (cond (decides e (markerLeft e (markerOf l u) B)) (saving u (l .payload) (l .saved)) (l .saved))
+  unfolding writeMarker
+  notes-B h e =
+      step-writes (writing u (suc made)) (goes-on (omega arith)) e
+      ∙ rw (
+        passes-here w (suc made) e _ (omega arith),
+        ne-eqb (suc made) 1 (omega arith),
+        eq-eqb (suc made) (w + 2) (omega arith),
+      )
+
+  pub notes-OK : made ≡ 2 * w + 2 → (e : End)
+      → noted p l e ≡ at l (then e ready) u (markerLeft e (markerOf l u) OK) (l .saved)
+  unfolding writeMarker
+  notes-OK h e =
+      step-writes ready (rw (eq-eqb (suc made) (2 * w + 3) (omega arith))) e
+      ∙ rw (
+        passes-not w (suc made) e _ (omega arith),
+        ne-eqb (suc made) 1 (omega arith),
+        ne-eqb (suc made) (w + 2) (omega arith),
+        eq-eqb (suc made) (2 * w + 3) (omega arith),
+      )
+
+-- a cleanup's store
+module _ (p : Plan) (l : Ledger) (u made : ℕ) (is : l .job ≡ recovering u made) where
+  pub notes-copy : made < width p u → (e : End)
+      → noted p l e ≡ at l (then e (recovering u (suc made))) u (markerOf l u) (l .saved)
+  unfolding accepted cleanupMarker
+  notes-copy h completed = rw (is, ne-eqb (suc made) (width p u + 1) (omega arith))
+  notes-copy h (tornBy m) = rw (is, ne-eqb (suc made) (width p u + 1) (omega arith))
+
+  pub notes-settle : made ≡ width p u → (e : End)
+      → noted p l e ≡ at l (then e ready) u (markerLeft e (markerOf l u) OK) (l .saved)
+  unfolding accepted cleanupMarker
+  notes-settle h completed = rw (is, eq-eqb (suc made) (width p u + 1) (omega arith))
+  notes-settle h (tornBy m) = rw (is, eq-eqb (suc made) (width p u + 1) (omega arith))

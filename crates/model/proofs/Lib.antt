@@ -1,0 +1,10 @@
+pub mod Compare
+pub mod RefusalLaws
+pub mod LayoutLaws
+pub mod MarkerLaws
+pub mod StoreLaws
+pub mod LedgerLaws
+pub mod Invariant
+pub mod Keeps
+pub mod Theorem
+pub mod CasesHold

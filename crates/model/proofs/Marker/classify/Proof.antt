@@ -1,0 +1,25 @@
+-- `Marker::classify` meets its contract: each arm knows which codes the byte is and isn't.
+use borrow.Author.Tests.{ne-eqb}
+use Rattle.model.specs.Marker.{meaning}
+use Rattle.model.proofs.Marker.classify.Statement.{statement}
+use Rattle.model.proofs.Marker.classify.Tie as tie
+
+returns : tie.Need-returns
+unfolding meaning
+returns c = simp (c .match .keys1)
+
+returns-2 : tie.Need-returns-2
+unfolding meaning
+returns-2 c = simp (c .match .keys2)
+
+returns-3 : tie.Need-returns-3
+unfolding meaning
+returns-3 c = simp (c .match .keys3)
+
+returns-4 : tie.Need-returns-4
+unfolding meaning
+returns-4 c =
+    simp (ne-eqb _ _ (c .match .rest .0 .0 .1), ne-eqb _ _ (c .match .rest .0 .1), ne-eqb _ _ (c .match .rest .1))
+
+pub classify-spec : {M : Type 1} → statement M
+classify-spec = tie.close (tie.spec returns returns-2 returns-3 returns-4)

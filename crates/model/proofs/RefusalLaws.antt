@@ -1,0 +1,210 @@
+-- What a refusal table's answer 0 says, and when it is 0.
+use Prim.Native.Nat.{ℕ, zero, suc, _+_, _*_, _≤_, _<_}
+use mathlib.Core.Path.{_≡_, refl, ap, sym, _∙_}
+use mathlib.Core.List.{List, [], _∷_, _++_}
+use mathlib.Core.Bool.{Bool, true, false, cond, not, _||_, true≢false, false≢true}
+use native.Mathlib.Omega.{arith}
+use lib.Dec.{eqb, ltb, leb}
+use lib.ListN.{length}
+use borrow.Author.Tests.{ltb-false, leb-false, eqb-true, eqb-false, lt-leb, le-leb, not-false}
+use Rattle.model.specs.declared.Plan.{Plan}
+use Rattle.model.specs.Layout.{width}
+use Rattle.model.specs.Marker.{OK}
+use Rattle.model.specs.Refusals.{Job, cold, ready, writing, recovering, isCold, isReady, writeTotal, cleanupTotal, View, badCount, badWidths, badJob, Refusal, _when_, first, planRow, deviceRow, startNumber, formatNumber, wakeNumber, stepNumber, cutNumber, beginNumber}
+use Rattle.model.proofs.Compare.{Order, below, above, order}
+
+-- ---- the first refusal that holds
+pub first-past : (n : ℕ) (t : Bool) (rest : List Refusal) → first (suc n when t ∷ rest) ≡ 0 → (t ≡ false) × (first rest ≡ 0)
+unfolding first
+first-past n true rest e = absurd (omega arith)
+first-past n false rest e = (refl, e)
+
+pub first-skip : (n : ℕ) (t : Bool) (rest : List Refusal) → t ≡ false → first (n when t ∷ rest) ≡ first rest
+unfolding first
+first-skip n true rest e = absurd (true≢false e)
+first-skip n false rest e = refl
+
+pub first-stop : (n : ℕ) (t : Bool) (rest : List Refusal) → t ≡ true → first (n when t ∷ rest) ≡ n
+unfolding first
+first-stop n true rest e = refl
+first-stop n false rest e = absurd (false≢true e)
+
+pub first-none : first [] ≡ 0
+unfolding first
+first-none = refl
+
+first-rest : (r : Refusal) (xs ys : List Refusal) → first xs ≡ first ys → first (r ∷ xs) ≡ first (r ∷ ys)
+unfolding first
+first-rest r xs ys e = ap (λ t. cond (r .holds) (r .number) t) e
+
+or-false : (x y : Bool) → x ≡ false → y ≡ false → x || y ≡ false
+or-false true y e f = e
+or-false false y e f = f
+
+false-or : (x y : Bool) → x || y ≡ false → (x ≡ false) × (y ≡ false)
+false-or true y e = absurd (true≢false e)
+false-or false y e = (refl, e)
+
+-- ---- a plan that start accepts
+pub record PlanOk (p : Plan) : Type 0 where
+  pub count : badCount p ≡ false
+  pub widths : badWidths p (p .count) ≡ false
+
+pub start-says : (p : Plan) → startNumber p ≡ 0 → PlanOk p
+unfolding startNumber
+start-says p e =
+    let h = first-past 0 (badCount p) _ e in
+    record { count = h .0; widths = first-past 1 (badWidths p (p .count)) [] (h .1) .0 }
+
+pub count-bounds : (p : Plan) → PlanOk p → (0 < p .count) × (p .count ≤ 8)
+unfolding badCount
+count-bounds p ok =
+    let h = false-or (eqb (p .count) 0) (ltb 8 (p .count)) (ok .count) in
+    let e = eqb-false (p .count) 0 (h .0) in
+    (omega arith, ltb-false 8 (p .count) (h .1))
+
+pub width-bounds : (p : Plan) → PlanOk p → (u : ℕ) → u < p .count → (0 < width p u) × (width p u ≤ 256)
+unfolding badWidths
+width-bounds p ok u h = go (p .count) (ok .widths) h
+  where
+    go : (n : ℕ) → badWidths p n ≡ false → u < n → (0 < width p u) × (width p u ≤ 256)
+    go zero e l = absurd (omega arith)
+    go (suc n) e l =
+        let q = false-or (badWidths p n) _ e in
+        elim (order u n) [
+          | below r ↦ go n (q .0) r
+          | above r ↦
+              let t : u ≡ n = omega arith in
+              let f = false-or (eqb (width p n) 0) (ltb 256 (width p n)) (q .1) in
+              let z = eqb-false (width p n) 0 (f .0) in
+              rw t (omega arith, ltb-false 256 (width p n) (f .1))
+        ]
+
+-- ---- what every device call's 0 says
+pub record Past (v : View) (rest : List Refusal) : Type 0 where
+  pub plan : PlanOk (v .plan)
+  pub long : v .short ≡ false
+  pub job : badJob (v .plan) (v .job) ≡ false
+  pub more : first rest ≡ 0
+
+pub past : (v : View) (rest : List Refusal) → first (deviceRow v ++ rest) ≡ 0 → Past v rest
+past v rest e =
+    let h₁ = first-past 0 (badCount (v .plan)) _ e in
+    let h₂ = first-past 1 (badWidths (v .plan) (v .plan .count)) _ (h₁ .1) in
+    let h₃ = first-past 2 (v .short) _ (h₂ .1) in
+    let h₄ = first-past 3 (badJob (v .plan) (v .job)) _ (h₃ .1) in
+    record { plan = record { count = h₁ .0; widths = h₂ .0 }; long = h₃ .0; job = h₄ .0; more = h₄ .1 }
+
+pub format-says : (v : View) → formatNumber v ≡ 0 → PlanOk (v .plan) × (v .short ≡ false)
+unfolding formatNumber
+format-says v e = let h = past v _ e in (h .plan, h .long)
+
+cold-only : (j : Job) → not (isCold j) ≡ false → j ≡ cold
+cold-only cold e = refl
+cold-only ready e = absurd (true≢false e)
+cold-only (writing u n) e = absurd (true≢false e)
+cold-only (recovering u n) e = absurd (true≢false e)
+
+ready-only : (j : Job) → not (isReady j) ≡ false → j ≡ ready
+ready-only cold e = absurd (true≢false e)
+ready-only ready e = refl
+ready-only (writing u n) e = absurd (true≢false e)
+ready-only (recovering u n) e = absurd (true≢false e)
+
+pub wake-says : (v : View) → wakeNumber v ≡ 0 → v .job ≡ cold
+unfolding wakeNumber
+wake-says v e = cold-only (v .job) (first-past 4 _ [] (past v _ e .more) .0)
+
+pub record Began (v : View) (u : ℕ) (payload : List ℕ) : Type 0 where
+  pub job : v .job ≡ ready
+  pub unit : u < v .plan .count
+  pub size : length payload ≡ width (v .plan) u
+
+pub begin-says : (v : View) (u : ℕ) (payload : List ℕ) → beginNumber v u payload ≡ 0 → Began v u payload
+unfolding beginNumber
+begin-says v u payload e =
+    let h₅ = first-past 4 (not (isReady (v .job))) _ (past v _ e .more) in
+    let h₆ = first-past 5 (leb (v .plan .count) u) _ (h₅ .1) in
+    let h₇ = first-past 6 (not (eqb (length payload) (width (v .plan) u))) _ (h₆ .1) in
+    record {
+      job = ready-only (v .job) (h₅ .0);
+      unit = leb-false (v .plan .count) u (h₆ .0);
+      size = eqb-true (length payload) (width (v .plan) u) (not-false _ (h₇ .0));
+    }
+
+-- ---- when it is 0
+pub job-writing : (p : Plan) (u n : ℕ) → u < p .count → n < writeTotal (width p u) → badJob p (writing u n) ≡ false
+unfolding badJob
+job-writing p u n h l = or-false _ _ (lt-leb (p .count) u h) (lt-leb _ n l)
+
+pub job-recovering : (p : Plan) (u n : ℕ) → u < p .count → n < cleanupTotal (width p u) → badJob p (recovering u n) ≡ false
+unfolding badJob
+job-recovering p u n h l = or-false _ _ (lt-leb (p .count) u h) (lt-leb _ n l)
+
+module _ (v : View) (ok : PlanOk (v .plan)) (long : v .short ≡ false) where
+  device-past : (rest : List Refusal) → badJob (v .plan) (v .job) ≡ false → first (deviceRow v ++ rest) ≡ first rest
+  device-past rest e =
+      first-skip 1 _ _ (ok .count) ∙ first-skip 2 _ _ (ok .widths) ∙ first-skip 3 _ _ long ∙ first-skip 4 _ _ e
+
+  pub cut-any : badJob (v .plan) (v .job) ≡ false → cutNumber v ≡ 0
+  unfolding cutNumber
+  cut-any e = device-past [] e ∙ first-none
+
+  module _ (e : v .job ≡ cold) where
+    cold-fine : badJob (v .plan) (v .job) ≡ false
+    unfolding badJob
+    cold-fine = rw e
+
+    pub wake-cold : wakeNumber v ≡ 0
+    unfolding wakeNumber
+    wake-cold = device-past _ cold-fine ∙ first-skip 5 _ [] (rw e) ∙ first-none
+
+    pub format-cold : formatNumber v ≡ 0
+    unfolding formatNumber
+    format-cold = device-past _ cold-fine ∙ first-skip 5 _ [] (rw e) ∙ first-none
+
+    pub step-cold : stepNumber v ≡ 5
+    unfolding stepNumber
+    step-cold = device-past _ cold-fine ∙ first-stop 5 _ [] (rw e)
+
+  pub step-ready : v .job ≡ ready → stepNumber v ≡ 5
+  unfolding stepNumber badJob
+  step-ready e = device-past _ (rw e) ∙ first-stop 5 _ [] (rw e)
+
+  pub step-recovering : (u n : ℕ) → v .job ≡ recovering u n → u < v .plan .count → n < cleanupTotal (width (v .plan) u)
+      → stepNumber v ≡ 0
+  unfolding stepNumber
+  step-recovering u n e h l =
+      device-past _ (rw e (job-recovering (v .plan) u n h l)) ∙ first-skip 5 _ [] (rw e) ∙ first-none
+
+-- ---- two views that no call tells apart: begin looks at the marker of a unit that the plan has
+pub record Alike (v v′ : View) : Type 0 where
+  pub plan : v .plan ≡ v′ .plan
+  pub short : v .short ≡ v′ .short
+  pub job : v .job ≡ v′ .job
+  pub marker : (u : ℕ) → u < v′ .plan .count → v .marker u ≡ v′ .marker u
+
+module _ {v v′ : View} (a : Alike v v′) where
+  pub step-alike : stepNumber v ≡ stepNumber v′
+  unfolding stepNumber
+  step-alike = rw (a .plan, a .short, a .job)
+
+  pub cut-alike : cutNumber v ≡ cutNumber v′
+  unfolding cutNumber
+  cut-alike = rw (a .plan, a .short, a .job)
+
+  pub wake-alike : wakeNumber v ≡ wakeNumber v′
+  unfolding wakeNumber
+  wake-alike = rw (a .plan, a .short, a .job)
+
+  pub begin-alike : (u : ℕ) (payload : List ℕ) → beginNumber v u payload ≡ beginNumber v′ u payload
+  unfolding beginNumber
+  begin-alike u payload =
+      elim (order u (v′ .plan .count)) [
+        | below l ↦ rw (a .plan, a .short, a .job, a .marker u l)
+        | above l ↦
+            let six : leb (v′ .plan .count) u ≡ true = le-leb (v′ .plan .count) u l in
+            rw (a .plan, a .short, a .job)
+            (first-rest _ _ _ (first-rest _ _ _ (first-rest _ _ _ (first-rest _ _ _ (first-rest _ _ _
+            (first-stop 6 _ _ six ∙ sym (first-stop 6 _ _ six)))))))
+      ]

@@ -1,0 +1,266 @@
+-- THE POWER-CUT THEOREM, proved: the invariant along a list of calls, and the repair after its closing cut.
+use Prim.Native.Nat.{ℕ, zero, suc, _+_, _*_, _≤_, _<_}
+use mathlib.Core.Path.{_≡_, refl, ap, ap₂, sym, _∙_, subst}
+use mathlib.Core.List.{List, [], _∷_, _++_}
+use mathlib.Core.Bool.{Bool, true, false, true≢false}
+use native.Mathlib.Omega.{arith}
+use lib.ListN.{length, drop, replicate, length-replicate, getD-replicate}
+use borrow.Author.Tests.{eq-eqb, ne-eqb, le-ltb, ltb-false}
+use Rattle.model.specs.declared.Plan.{Plan}
+use Rattle.model.specs.declared.Phase.the-variants.{Ready}
+use Rattle.model.specs.Marker.{OK, direction, completed}
+use Rattle.model.specs.Layout.{Copy, marker, byte, width, total, get, copyOf, formatted}
+use Rattle.model.specs.Refusals.{Job, cold, ready, writing, recovering, isReady, badJob, formatNumber, startNumber}
+use Rattle.model.specs.Calls.{Device, Outcome, outcome, AllMarkersOk, asStarted, asFormatted, view, jobOf}
+use Rattle.model.specs.Calls as calls
+use Rattle.model.specs.Ledger.{Ledger, Call, step, cut, wake, opening, judged, told, accepted, fed, tells, after, wasCut}
+use Rattle.model.specs.Ledger as ledger
+use Rattle.model.specs.PowerCut.{call, run, answers, closedBy, repair, Repairs, none, only, Repaired, Survives, PowerCut, PowerCutFromStart}
+use Rattle.model.proofs.Compare.{Same, equal, differ, same}
+use Rattle.model.proofs.RefusalLaws.{PlanOk, count-bounds, start-says, format-says, format-cold, job-writing, job-recovering, wake-cold, cut-any, step-recovering}
+use Rattle.model.proofs.LayoutLaws.{copy-is, get-formatted, length-formatted, rest-formatted}
+use Rattle.model.proofs.LedgerLaws.{at, own-marker, notes-copy, notes-settle}
+use Rattle.model.proofs.Invariant.{Has, Whole, Both, Clean, Frame, Stage, resting, off, opened, toA, toB, mending, phased, job-phased, Inv, all-clean}
+use Rattle.model.proofs.Keeps.{Agrees, keeps}
+
+-- ---- a formatted device
+opens : (p : Plan) (before : List ℕ) (o : Outcome) → PlanOk p → total p ≤ length before → o .device .plan ≡ p → o .device .phase ≡ Ready
+    → o .image ≡ formatted p before → Inv p before (opening p) o
+unfolding opening
+opens p before o ok h plan phase image =
+    record {
+      plan = plan;
+      phase = phase;
+      frame = rw image (record {
+        size = length-formatted p ok before h;
+        long = omega (arith, length-formatted p ok before h);
+        rest = rest-formatted p ok before;
+        unit = count-bounds p ok .0;
+        lengths = λ v hv. length-replicate (width p v) 0;
+        others = λ v hv ne. record { mark = get-formatted p ok before v marker hv tt; both = λ c. zeros v hv c };
+      });
+      mark = rw image (get-formatted p ok before 0 marker (count-bounds p ok .0) tt);
+      stage = resting refl refl (rw image (λ c. zeros 0 (count-bounds p ok .0) c));
+    }
+  where
+    zeros : (v : ℕ) → v < p .count → (c : Copy) → Whole p (formatted p before) v c (replicate (width p v) 0)
+    zeros v hv c i l = get-formatted p ok before v (byte c i) hv l ∙ sym (getD-replicate (width p v) i 0 0 l)
+
+module _ (p : Plan) (ok : PlanOk p) (before : List ℕ) where
+  -- ---- along a list of calls
+  pub record Along (cs : List Call) (l : Ledger) (o : Outcome) : Type 0 where
+    pub answered : answers cs o ≡ tells p l cs
+    pub inv : Inv p before (after p l cs) (run cs o)
+
+  along : (cs : List Call) (l : Ledger) (o : Outcome) → Inv p before l o → Along cs l o
+  unfolding answers tells run after fed
+  along [] l o inv = record { answered = refl; inv = inv }
+  along (c ∷ cs) l o inv =
+      let h = keeps p ok before l o inv c in
+      let t = along cs (fed p l c) (call c o) (h .kept) in
+      record { answered = ap₂ _∷_ (h .answer) (t .answered); inv = t .inv }
+
+  -- ---- the closing cut is accepted and leaves Cold
+  job-fine : (l : Ledger) (o : Outcome) → Inv p before l o → badJob p (l .job) ≡ false
+  unfolding badJob
+  job-fine l o inv = go (inv .stage)
+    where
+      unit : l .unit < p .count
+      unit = inv .frame .unit
+
+      go : Stage p (o .image) l (o .device .payload) → badJob p (l .job) ≡ false
+      go (resting e mk h) = rw e
+      go (off e h) = rw e
+      go (opened v hv e mk h ld) = rw e (job-writing p v 0 hv (omega arith))
+      go (toA j hj e mk hb ha ld) = rw e (job-writing p (l .unit) (suc j) unit (omega arith))
+      go (toB j hj e mk sv ha hb ld) = rw e (job-writing p (l .unit) (suc (width p (l .unit) + suc j)) unit (omega arith))
+      go (mending j hj e mk hs ht) = rw e (job-recovering p (l .unit) j unit (omega arith))
+
+  fed-accepted : (l : Ledger) (c : Call) → told p l c ≡ 0 → fed p l c ≡ accepted p l c
+  unfolding fed
+  fed-accepted l c e = rw e
+
+  cut-leaves-cold : (l : Ledger) (o : Outcome) (m : ℕ) → Inv p before l o → fed p l (cut m) .job ≡ cold
+  unfolding told accepted
+  cut-leaves-cold l o m inv =
+      rw (fed-accepted l (cut m) (cut-any (judged p l) ok refl (job-fine l o inv))) (go (l .job))
+    where
+      go : (j : Job) → wasCut p l m j .job ≡ cold
+      go cold = refl
+      go ready = refl
+      go (writing u n) = refl
+      go (recovering u n) = refl
+
+  after-snoc : (cs : List Call) (c : Call) (l : Ledger) → after p l (cs ++ (c ∷ [])) ≡ fed p (after p l cs) c
+  unfolding after
+  after-snoc [] c l = refl
+  after-snoc (x ∷ cs) c l = after-snoc cs c (fed p l x)
+
+  ends-cold : (cs : List Call) (m : ℕ) (l : Ledger) (o : Outcome) → Inv p before l o → after p l (closedBy m cs) .job ≡ cold
+  ends-cold cs m l o inv =
+      rw (after-snoc cs (cut m) l) (cut-leaves-cold (after p l cs) (run cs o) m (along cs l o inv .inv))
+
+  -- ---- the ledger alone goes through a repair: n accepted steps, none of them from Ready, that save nothing
+  pub data Mends : Ledger → ℕ → Type 0 where
+    done : {l : Ledger} → l .job ≡ ready → Mends l 0
+    more : {l : Ledger} {n : ℕ} → told p l step ≡ 0 → isReady (l .job) ≡ false → fed p l step .saved ≡ l .saved
+        → Mends (fed p l step) n → Mends l (suc n)
+
+  mends-answers : {l : Ledger} {n : ℕ} → Mends l n → tells p l (replicate n step) ≡ replicate n 0
+  unfolding tells
+  mends-answers (done r) = refl
+  mends-answers (more a r s g) = ap₂ _∷_ a (mends-answers g)
+
+  mends-ready : {l : Ledger} {n : ℕ} → Mends l n → after p l (replicate n step) .job ≡ ready
+  unfolding after
+  mends-ready (done r) = r
+  mends-ready (more a r s g) = mends-ready g
+
+  mends-saved : {l : Ledger} {n : ℕ} → Mends l n → after p l (replicate n step) .saved ≡ l .saved
+  unfolding after
+  mends-saved (done r) = refl
+  mends-saved (more a r s g) = mends-saved g ∙ s
+
+  mends-not-earlier : {l : Ledger} {n : ℕ} → Mends l n → (j : ℕ) → j < n → isReady (after p l (replicate j step) .job) ≡ false
+  unfolding after
+  mends-not-earlier (done r) j h = absurd (omega arith)
+  mends-not-earlier (more a r s g) zero h = r
+  mends-not-earlier (more a r s g) (suc j) h = mends-not-earlier g j (omega arith)
+
+  -- a cleanup of unit u that has made j stores, with n bytes to copy still
+  mends-unit : (u : ℕ) → u < p .count → (n j : ℕ) (l : Ledger) → l .job ≡ recovering u j → j + n ≡ width p u → Mends l (suc n)
+  unfolding told
+  mends-unit u hu zero j l e h =
+      let fine : told p l step ≡ 0 = step-recovering (judged p l) ok refl u j e hu (omega arith) in
+      let is = fed-accepted l step fine ∙ notes-settle p l u j e (omega arith) completed in
+      more fine (rw e) (ap (λ (x : Ledger). x .saved) is) (subst (λ (x : Ledger). Mends x 0) (sym is) (done refl))
+  mends-unit u hu (suc n) j l e h =
+      let fine : told p l step ≡ 0 = step-recovering (judged p l) ok refl u j e hu (omega arith) in
+      let is = fed-accepted l step fine ∙ notes-copy p l u j e (omega arith) completed in
+      more fine (rw e) (ap (λ (x : Ledger). x .saved) is)
+      (subst (λ (x : Ledger). Mends x (suc n)) (sym is) (mends-unit u hu n (suc j) _ refl (omega arith)))
+
+  -- ---- in Ready every unit is clean
+  ready-clean : (l : Ledger) (o : Outcome) → Inv p before l o → l .job ≡ ready
+      → (v : ℕ) → v < p .count → Clean p (o .image) (l .saved) v
+  ready-clean l o inv r = go (inv .stage)
+    where
+      other : {X : Type 0} (j : Job) → l .job ≡ j → isReady j ≡ false → X
+      other j e t = absurd (true≢false (ap isReady (sym r ∙ e) ∙ t))
+
+      go : Stage p (o .image) l (o .device .payload) → (v : ℕ) → v < p .count → Clean p (o .image) (l .saved) v
+      go (resting e mk both) = all-clean (inv .frame) (record { mark = inv .mark ∙ mk; both = both })
+      go (off e h) = other _ e refl
+      go (opened v hv e mk h ld) = other _ e refl
+      go (toA j hj e mk hb ha ld) = other _ e refl
+      go (toB j hj e mk sv ha hb ld) = other _ e refl
+      go (mending j hj e mk hs ht) = other _ e refl
+
+  not-ready : (l : Ledger) (o : Outcome) → Inv p before l o → isReady (l .job) ≡ false → ¬ (o .device .phase ≡ Ready)
+  not-ready l o inv t q =
+      true≢false
+      (sym (ap (λ ph. isReady (jobOf ph)) q) ∙ ap (λ ph. isReady (jobOf ph)) (inv .phase)
+      ∙ ap isReady (job-phased (direction (l .marker)) (l .job)) ∙ t)
+
+  -- ---- one wake, and the steps that the ledger says
+  module _ (l : Ledger) (o : Outcome) (inv : Inv p before l o) (woken : told p l wake ≡ 0)
+      (same-saved : fed p l wake .saved ≡ l .saved) where
+    after-repair : (n : ℕ) → after p l (repair n) ≡ after p (fed p l wake) (replicate n step)
+    unfolding after
+    after-repair n = refl
+
+    tells-repair : (n : ℕ) → tells p l (repair n) ≡ told p l wake ∷ tells p (fed p l wake) (replicate n step)
+    unfolding tells
+    tells-repair n = refl
+
+    repaired-in : (n : ℕ) → Repairs p (o .image) n → Mends (fed p l wake) n → Repaired p before (l .saved) o
+    repaired-in n needed mends =
+        let t = along (repair n) l o inv in
+        let e : after p l (repair n) .job ≡ ready = ap (λ (x : Ledger). x .job) (after-repair n) ∙ mends-ready mends in
+        let s : after p l (repair n) .saved ≡ l .saved =
+        ap (λ (x : Ledger). x .saved) (after-repair n) ∙ mends-saved mends ∙ same-saved in
+        let all = ready-clean (after p l (repair n)) (run (repair n) o) (t .inv) e in
+        let frame = t .inv .frame in
+        let plus : suc n ≡ 1 + n = omega arith in
+        record {
+          steps = n;
+          needed = needed;
+          accepted = t .answered ∙ tells-repair n ∙ ap₂ _∷_ woken (mends-answers mends) ∙ ap (λ (k : ℕ). replicate {A = ℕ} k 0) plus;
+          ready = t .inv .phase ∙ ap (phased (direction (after p l (repair n) .marker))) e;
+          notEarlier = λ j h. not-ready (after p l (repair j)) _ (along (repair j) l o inv .inv)
+              (ap (λ (x : Ledger). isReady (x .job)) (after-repair j) ∙ mends-not-earlier mends j h);
+          markers = λ v hv. all v hv .mark;
+          copies = λ v hv c.
+              copy-is p ok _ v c _ hv (frame .long) (frame .lengths v hv) (all v hv .both c) ∙ ap (λ f. f v) s;
+          rest = frame .rest;
+          size = frame .size;
+        }
+
+  -- ---- what the closing cut left is repaired
+  repaired : (l : Ledger) (o : Outcome) → Inv p before l o → l .job ≡ cold → Repaired p before (l .saved) o
+  unfolding told accepted
+  repaired l o inv job = go (same (l .marker) OK)
+    where
+      woken : told p l wake ≡ 0
+      woken = wake-cold (judged p l) ok refl job
+
+      is : fed p l wake ≡ accepted p l wake
+      is = fed-accepted l wake woken
+
+      others : (v : ℕ) → v < p .count → ¬ (v ≡ l .unit) → get p (o .image) v marker ≡ OK
+      others v hv h = inv .frame .others v hv h .mark
+
+      go : Same (l .marker) OK → Repaired p before (l .saved) o
+      go (equal q) =
+          let to : fed p l wake ≡ ledger.noted l ready (l .payload) = is ∙ rw (eq-eqb (l .marker) OK q) in
+          repaired-in l o inv woken (ap (λ (x : Ledger). x .saved) to) 0
+          (none (λ v hv. elim (same v (l .unit)) [ equal x ↦ rw x (inv .mark ∙ q) | differ x ↦ others v hv x ]))
+          (subst (λ (x : Ledger). Mends x 0) (sym to) (done refl))
+      go (differ q) =
+          let u : ℕ = l .unit in
+          let to : fed p l wake ≡ ledger.noted l (recovering u 0) (l .payload) = is ∙ rw (ne-eqb (l .marker) OK q) in
+          let plus : suc (width p u) ≡ 1 + width p u = omega arith in
+          let mends : Mends (fed p l wake) (suc (width p u)) =
+          subst (λ (x : Ledger). Mends x (suc (width p u))) (sym to)
+          (mends-unit u (inv .frame .unit) (width p u) 0 _ refl (omega arith)) in
+          repaired-in l o inv woken (ap (λ (x : Ledger). x .saved) to) (1 + width p u)
+          (only u (inv .frame .unit) (rw (inv .mark) q) others) (rw plus at mends)
+
+  survives : (f : Outcome) → Inv p before (opening p) f → (cs : List Call) (m : ℕ) → Survives p before f m cs
+  survives f inv cs m =
+      let t = along (closedBy m cs) (opening p) f inv in
+      record { answered = t .answered; repaired = repaired _ _ (t .inv) (ends-cold cs m (opening p) f inv) }
+
+-- ---- the theorem
+accepts : (n : ℕ) (d : Device) (image : List ℕ) (o : Outcome) → calls.unlessRefused n d image o .number ≡ 0 → n ≡ 0
+accepts zero d image o e = refl
+accepts (suc n) d image o e = e
+
+pub power-cut : PowerCut
+unfolding calls.format
+power-cut d image e =
+    let n : ℕ = formatNumber (view d image) in
+    let z : n ≡ 0 = accepts n d image (outcome 0 (asFormatted d) (formatted (d .plan) image)) e in
+    let h = format-says (view d image) z in
+    let f : Outcome = outcome 0 (asFormatted d) (formatted (d .plan) image) in
+    let long : total (d .plan) ≤ length image = ltb-false (length image) (total (d .plan)) (h .1) in
+    rw z (survives (d .plan) (h .0) image f (opens (d .plan) image f (h .0) long refl refl refl))
+
+start-accepts : (p : Plan) → calls.start p .number ≡ 0 → (startNumber p ≡ 0) × (calls.start p .device ≡ asStarted p)
+unfolding calls.start
+start-accepts p e = go (startNumber p) e
+  where
+    go : (n : ℕ) → calls.startAnswer n p .number ≡ 0 → (n ≡ 0) × (calls.startAnswer n p .device ≡ asStarted p)
+    go zero q = (refl, refl)
+    go (suc n) q = absurd (omega arith)
+
+formats : (p : Plan) (image : List ℕ) → PlanOk p → total p ≤ length image → calls.format (asStarted p) image .number ≡ 0
+unfolding calls.format
+formats p image ok h =
+    rw (format-cold (view (asStarted p) image) ok (le-ltb (length image) (total p) h) refl)
+
+pub power-cut-from-start : PowerCutFromStart
+power-cut-from-start p image e h =
+    let t = start-accepts p e in
+    let z = formats p image (start-says p (t .0)) h in
+    rw (t .1) (z, power-cut (asStarted p) image z)

@@ -1,0 +1,188 @@
+-- What each call of document 01 gives: its number, the next device, and every byte of the image.
+use Prim.Native.Nat.{ℕ, zero, suc, _+_, _-_, _<_}
+use mathlib.Core.Path.{_≡_}
+use mathlib.Core.List.{List, [], _∷_, _++_}
+use mathlib.Core.Option.{Option, none, some}
+use mathlib.Core.Bool.{Bool, cond}
+use lib.Dec.{eqb, ltb}
+use lib.ListN.{length, getElem?, replicate}
+use Rattle.model.specs.declared.Plan.{Plan}
+use Rattle.model.specs.declared.Inspection.{Inspection}
+use Rattle.model.specs.declared.Inspection.the-variants.{Refused, Suspect, AllOk}
+use Rattle.model.specs.declared.Phase.{Phase}
+use Rattle.model.specs.declared.Phase.the-variants.{Cold, Ready, Writing, Recovering}
+use Rattle.model.specs.Marker.{OK, direction, End, completed, tornBy}
+use Rattle.model.specs.Layout.{copyA, marker, width, total, get, copyOf, formatted}
+use Rattle.model.specs.Refusals.{Job, cold, ready, writing, recovering, View, writeTotal, cleanupTotal, startNumber, formatNumber, beginNumber, stepNumber, wakeNumber, cutNumber, readNumber, inspectNumber}
+use Rattle.model.specs.Stores.{Store, writeStores, cleanupStores, stored}
+
+-- "The device is a plan, a 256-byte payload and a phase." The library's struct has the same fields.
+pub record Device : Type 0 where
+  pub plan : Plan
+  pub payload : List ℕ
+  pub phase : Phase
+
+-- what start hands back
+pub record Answer : Type 0 where
+  pub number : ℕ
+  pub device : Device
+
+-- what every other call hands back, and the image that it leaves
+pub record Outcome : Type 0 where
+  pub number : ℕ
+  pub device : Device
+  pub image : List ℕ
+
+abbrev pub outcome : ℕ → Device → List ℕ → Outcome
+outcome n d image = record { number = n; device = d; image = image }
+
+-- ---- The next device of each call. These alone build one.
+abbrev pub zeroPayload : List ℕ
+zeroPayload = replicate 256 0
+
+-- "Start (from a plan) keeps the plan as given, all eight widths, with Cold and a zero payload."
+abbrev pub asStarted : Plan → Device
+asStarted p = record { plan = p; payload = zeroPayload; phase = Cold }
+
+-- "payload zero, phase Ready"
+abbrev pub asFormatted : Device → Device
+asFormatted d = record { plan = d .plan; payload = zeroPayload; phase = Ready }
+
+-- "the payload goes into the device, zeros after it; phase Writing, 0 made"
+abbrev pub asBegun : ℕ → List ℕ → Device → Device
+asBegun u payload d =
+    record { plan = d .plan; payload = payload ++ replicate (256 - length payload) 0; phase = Writing u 0 }
+
+-- "The payload stays."
+abbrev pub asStepped : Phase → Device → Device
+asStepped phase d = record { plan = d .plan; payload = d .payload; phase = phase }
+
+-- "The payload stays as it is."
+abbrev pub asWoken : Phase → Device → Device
+asWoken phase d = record { plan = d .plan; payload = d .payload; phase = phase }
+
+-- "The device is then Cold with a zero payload."
+abbrev pub asCut : Device → Device
+asCut d = record { plan = d .plan; payload = zeroPayload; phase = Cold }
+
+-- ---- What a call is judged by.
+abbrev pub jobOf : Phase → Job
+jobOf Cold = cold
+jobOf Ready = ready
+jobOf (Writing u made) = writing u made
+jobOf (Recovering u made d) = recovering u made
+
+abbrev pub view : Device → List ℕ → View
+view d image =
+    record {
+      plan = d .plan;
+      short = ltb (length image) (total (d .plan));
+      job = jobOf (d .phase);
+      marker = λ u. get (d .plan) image u marker;
+    }
+
+-- "A refusal returns the device it got and changes no lent byte."
+abbrev pub unlessRefused : ℕ → Device → List ℕ → Outcome → Outcome
+unlessRefused zero d image accepted = accepted
+unlessRefused (suc n) d image accepted = outcome (suc n) d image
+
+-- ---- The store that comes next, and the phase after it.
+unfoldable pub next : Plan → List ℕ → List ℕ → Phase → Option Store
+next p payload image Cold = none
+next p payload image Ready = none
+next p payload image (Writing u made) = getElem? (writeStores p u payload) made
+next p payload image (Recovering u made d) = getElem? (cleanupStores p image u d) made
+
+-- the image after the next store, completed or torn; "in Cold and Ready it stores nothing"
+unfoldable pub imageAfter : End → Device → List ℕ → List ℕ
+imageAfter e d image = stored (d .plan) image e (next (d .plan) (d .payload) image (d .phase))
+
+-- "Every cleanup begins with 0 made." The cleanup of the lowest of the n units from u on whose marker isn't OK, or Ready.
+unfoldable pub cleanupAmong : Plan → List ℕ → ℕ → ℕ → Phase
+cleanupAmong p image zero u = Ready
+cleanupAmong p image (suc n) u =
+    cond (eqb (get p image u marker) OK)
+    (cleanupAmong p image n (suc u))
+    (Recovering u 0 (direction (get p image u marker)))
+
+abbrev pub cleanupFrom : Plan → List ℕ → ℕ → Phase
+cleanupFrom p image u = cleanupAmong p image (p .count - u) u
+
+-- "adds 1. After a write's last store the phase is Ready. After a cleanup's last, it is the cleanup of the next higher unit
+-- whose marker isn't 1, or Ready."
+unfoldable pub phaseAfter : Plan → List ℕ → Phase → Phase
+phaseAfter p image Cold = Cold
+phaseAfter p image Ready = Ready
+phaseAfter p image (Writing u made) =
+    cond (eqb (suc made) (writeTotal (width p u))) Ready (Writing u (suc made))
+phaseAfter p image (Recovering u made d) =
+    cond (eqb (suc made) (cleanupTotal (width p u))) (cleanupFrom p image (suc u)) (Recovering u (suc made) d)
+
+-- ---- The calls.
+-- "start's refusal returns k = 0, all widths 0, Cold, zero payload"
+abbrev pub startAnswer : ℕ → Plan → Answer
+startAnswer zero p = record { number = 0; device = asStarted p }
+startAnswer (suc n) p =
+    record { number = suc n; device = asStarted (record { count = 0; widths = replicate 8 0 }) }
+
+unfoldable pub start : Plan → Answer
+start p = startAnswer (startNumber p) p
+
+-- "zeros in all units, every marker 1, payload zero, phase Ready"
+unfoldable pub format : Device → List ℕ → Outcome
+format d image =
+    unlessRefused (formatNumber (view d image)) d image (outcome 0 (asFormatted d) (formatted (d .plan) image))
+
+-- "stores nothing; the payload goes into the device"
+unfoldable pub begin : Device → List ℕ → ℕ → List ℕ → Outcome
+begin d image u payload =
+    unlessRefused (beginNumber (view d image) u payload) d image (outcome 0 (asBegun u payload d) image)
+
+-- "makes the next store and adds 1"
+unfoldable pub step : Device → List ℕ → Outcome
+step d image =
+    unlessRefused (stepNumber (view d image)) d image
+    (outcome 0 (asStepped (phaseAfter (d .plan) (imageAfter completed d image) (d .phase)) d) (imageAfter completed d image))
+
+-- "stores nothing; the cleanup of the lowest unit whose marker isn't 1, or Ready"
+unfoldable pub wake : Device → List ℕ → Outcome
+wake d image =
+    unlessRefused (wakeNumber (view d image)) d image (outcome 0 (asWoken (cleanupFrom (d .plan) image 0) d) image)
+
+-- "in Writing or Recovering it tears the next store; in Cold and Ready it stores nothing"
+unfoldable pub cut : Device → List ℕ → ℕ → Outcome
+cut d image m =
+    unlessRefused (cutNumber (view d image)) d image (outcome 0 (asCut d) (imageAfter (tornBy m) d image))
+
+-- "the part of the lent image that is copy A, not a copy; an empty part when refused"
+abbrev pub partUnlessRefused : ℕ → List ℕ → List ℕ
+partUnlessRefused zero part = part
+partUnlessRefused (suc n) part = []
+
+unfoldable pub read : Device → List ℕ → ℕ → List ℕ
+read d image u = partUnlessRefused (readNumber (view d image) u) (copyOf (d .plan) image u copyA)
+
+-- "A companion call gives the number, 0 or a refusal": readNumber (view d image) u.
+
+-- The document's number, and the unit named, for each case of inspect's answer.
+abbrev pub numberIn : Inspection → ℕ
+numberIn (Refused n) = n
+numberIn (Suspect u) = 0
+numberIn AllOk = 0
+
+abbrev pub unitIn : Inspection → Option ℕ
+unitIn (Refused n) = none
+unitIn (Suspect u) = some u
+unitIn AllOk = none
+
+abbrev pub AllMarkersOk : Plan → List ℕ → Type 0
+AllMarkersOk p image = (u : ℕ) → u < p .count → get p image u marker ≡ OK
+
+-- "some unit whose marker isn't 1, or none exactly if all are 1. Which one is free. .. refused, it .. names no unit"
+abbrev pub Names : Device → List ℕ → ℕ → Option ℕ → Type 0
+Names d image (suc refusal) unit = unit ≡ none
+Names d image zero none = AllMarkersOk (d .plan) image
+Names d image zero (some u) = (u < d .plan .count) × ¬ (get (d .plan) image u marker ≡ OK)
+
+abbrev pub Inspects : Device → List ℕ → ℕ → Option ℕ → Type 0
+Inspects d image number unit = (number ≡ inspectNumber (view d image)) × Names d image number unit

@@ -1,0 +1,311 @@
+-- Edges that the power-cut theorem cannot see, as tables and facts: every number of every call; whole outcomes, also on images
+-- that no list from a formatted device leaves; the ledger's own entries; what inspect may say.
+-- proofs/CasesHold.antt has the theorems that the definitions give every row.
+use Prim.Native.Nat.{ℕ, zero, suc}
+use mathlib.Core.Path.{_≡_}
+use mathlib.Core.List.{List, [], _∷_, _++_, map}
+use mathlib.Core.Option.{Option, none, some}
+use lib.ListN.{replicate}
+use Rattle.model.specs.declared.Direction.the-variants.{AToB, BToA}
+use Rattle.model.specs.declared.Phase.{Phase}
+use Rattle.model.specs.declared.Phase.the-variants.{Cold, Ready, Writing, Recovering}
+use Rattle.model.specs.declared.Plan.{Plan}
+use Rattle.model.specs.Refusals.{Job, cold, ready, writing, recovering, readNumber, inspectNumber}
+use Rattle.model.specs.Calls.{Device, Answer, Outcome, outcome, view, zeroPayload, Inspects}
+use Rattle.model.specs.Calls as calls
+use Rattle.model.specs.Ledger.{Call, begin, step, cut, wake, Ledger, opening, after}
+use Rattle.model.specs.PowerCut.{call, run}
+
+-- ---- Refusals. A row has a situation, in which whatever a later row mends is still wrong, and the number of each call there.
+pub record Numbers : Type 0 where
+  pub start : ℕ
+  pub format : ℕ
+  pub wake : ℕ
+  pub step : ℕ
+  pub cut : ℕ
+  pub inspect : ℕ
+  pub read : ℕ
+  pub begin : ℕ
+
+abbrev numbers : ℕ → ℕ → ℕ → ℕ → ℕ → ℕ → ℕ → ℕ → Numbers
+numbers a b c d e f g h =
+    record { start = a; format = b; wake = c; step = d; cut = e; inspect = f; read = g; begin = h }
+
+-- a device and an image, and the unit and the payload that read and begin are asked for
+pub record Situation : Type 0 where
+  pub device : Device
+  pub image : List ℕ
+  pub unit : ℕ
+  pub payload : List ℕ
+
+abbrev pub numbersIn : Situation → Numbers
+numbersIn s =
+    numbers
+    (calls.start (s .device .plan) .number)
+    (calls.format (s .device) (s .image) .number)
+    (calls.wake (s .device) (s .image) .number)
+    (calls.step (s .device) (s .image) .number)
+    (calls.cut (s .device) (s .image) 0 .number)
+    (inspectNumber (view (s .device) (s .image)))
+    (readNumber (view (s .device) (s .image)) (s .unit))
+    (calls.begin (s .device) (s .image) (s .unit) (s .payload) .number)
+
+-- a device of k units with the widths 2, w, 1, 0, 0 .. in a phase, over an image
+abbrev at : ℕ → ℕ → Phase → List ℕ → ℕ → List ℕ → Situation
+at k w phase image u payload =
+    record {
+      device = record {
+        plan = record { count = k; widths = 2 ∷ w ∷ 1 ∷ replicate 5 0 };
+        payload = zeroPayload;
+        phase = phase;
+      };
+      image = image;
+      unit = u;
+      payload = payload;
+    }
+
+-- eight bytes of a plan of widths 2 and 1, both markers m
+abbrev marked : ℕ → List ℕ
+marked m = m ∷ 0 ∷ 0 ∷ 0 ∷ 0 ∷ m ∷ 0 ∷ 0 ∷ []
+
+pub record Row : Type 0 where
+  pub situation : Situation
+  pub expected : Numbers
+
+abbrev row : Situation → Numbers → Row
+row s n = record { situation = s; expected = n }
+
+-- the same number from every call that has a device
+abbrev all : ℕ → ℕ → Numbers
+all first n = numbers first n n n n n n n
+
+abbrev pub refusals : List Row
+refusals =
+    -- 1: no unit, and one too many
+    row (at 0 0 (Writing 9 0) [] 9 []) (all 1 1)
+    ∷ row (at 9 0 (Writing 9 0) [] 9 []) (all 1 1)
+    -- 2: one of the first k widths is 0, or one too wide
+    ∷ row (at 2 0 (Writing 9 0) [] 9 []) (all 2 2)
+    ∷ row (at 2 257 (Writing 9 0) [] 9 []) (all 2 2)
+    ∷ row (at 8 1 (Writing 9 0) [] 9 []) (all 2 2)
+    -- 3: a byte too few
+    ∷ row (at 2 1 (Writing 2 0) (replicate 7 0) 2 []) (all 0 3)
+    -- 4: unit k, or as many stores made as the job has
+    ∷ row (at 2 1 (Writing 2 0) (marked 2) 2 []) (all 0 4)
+    ∷ row (at 2 1 (Writing 0 7) (marked 2) 2 []) (all 0 4)
+    ∷ row (at 2 1 (Recovering 2 0 AToB) (marked 2) 2 []) (all 0 4)
+    ∷ row (at 2 1 (Recovering 0 3 BToA) (marked 2) 2 []) (all 0 4)
+    -- start format wake step cut inspect read begin, in this order
+    -- 5: each phase has its calls
+    ∷ row (at 2 1 (Writing 0 6) (marked 2) 2 []) (numbers 0 5 5 0 0 0 5 5)
+    ∷ row (at 2 1 (Recovering 0 2 AToB) (marked 2) 2 []) (numbers 0 5 5 0 0 0 5 5)
+    ∷ row (at 2 1 Cold (marked 2) 2 []) (numbers 0 0 0 5 0 0 5 5)
+    -- 6: unit k
+    ∷ row (at 2 1 Ready (marked 2) 2 []) (numbers 0 5 5 5 0 0 6 6)
+    -- 7: a byte of payload too few, and one too many
+    ∷ row (at 2 1 Ready (marked 2) 0 (9 ∷ [])) (numbers 0 5 5 5 0 0 8 7)
+    ∷ row (at 2 1 Ready (marked 2) 0 (9 ∷ 9 ∷ 9 ∷ [])) (numbers 0 5 5 5 0 0 8 7)
+    -- 8: the unit's own marker, whatever the others are
+    ∷ row (at 2 1 Ready (marked 2) 0 (9 ∷ 9 ∷ [])) (numbers 0 5 5 5 0 0 8 8)
+    ∷ row (at 2 1 Ready (1 ∷ 0 ∷ 0 ∷ 0 ∷ 0 ∷ 0 ∷ 0 ∷ 0 ∷ []) 1 (9 ∷ [])) (numbers 0 5 5 5 0 0 8 8)
+    ∷ row (at 2 1 Ready (0 ∷ 0 ∷ 0 ∷ 0 ∷ 0 ∷ 1 ∷ 0 ∷ 0 ∷ []) 1 (9 ∷ [])) (numbers 0 5 5 5 0 0 0 0)
+    -- the widest unit, and a byte after the units
+    ∷ row (at 3 256 Ready (replicate 5 0 ++ (1 ∷ replicate 516 0)) 1 (replicate 256 9)) (numbers 0 5 5 5 0 0 0 0)
+    ∷ []
+
+abbrev pub EveryRefusal : Type 0
+EveryRefusal = map (λ (r : Row). numbersIn (r .situation)) refusals ≡ map (λ (r : Row). r .expected) refusals
+
+-- ---- Whole outcomes: number, device, every byte. The plan has the widths 2 and 1, the payload is 5 6 and zeros.
+abbrev pub plan21 : Plan
+plan21 = record { count = 2; widths = 2 ∷ 1 ∷ replicate 6 0 }
+
+abbrev held : List ℕ
+held = 5 ∷ 6 ∷ replicate 254 0
+
+abbrev device : Phase → List ℕ → Device
+device phase payload = record { plan = plan21; payload = payload; phase = phase }
+
+-- unit 0 as given, unit 1 as given, and a byte after the units
+abbrev units : List ℕ → List ℕ → List ℕ
+units unit0 unit1 = unit0 ++ unit1 ++ (9 ∷ [])
+
+abbrev fresh0 : List ℕ
+fresh0 = 1 ∷ 0 ∷ 0 ∷ 0 ∷ 0 ∷ []
+
+abbrev fresh1 : List ℕ
+fresh1 = 1 ∷ 0 ∷ 0 ∷ []
+
+-- the outcome of each of n steps
+unfoldable pub trace : ℕ → Outcome → List Outcome
+trace zero o = []
+trace (suc n) o = call step o ∷ trace n (call step o)
+
+-- an accepted call
+abbrev gives : Phase → List ℕ → List ℕ → List ℕ → Outcome
+gives phase payload unit0 unit1 = outcome 0 (device phase payload) (units unit0 unit1)
+
+-- in a write of unit 0, and in a cleanup of both units
+abbrev wrote : ℕ → List ℕ → Outcome
+wrote made unit0 = gives (Writing 0 made) held unit0 fresh1
+
+abbrev cleaning : Phase → List ℕ → List ℕ → Outcome
+cleaning phase unit0 unit1 = gives phase held unit0 unit1
+
+pub record Pair : Type 0 where
+  pub computed : List Outcome
+  pub expected : List Outcome
+
+abbrev pair : List Outcome → List Outcome → Pair
+pair c e = record { computed = c; expected = e }
+
+abbrev one : Outcome → Outcome → Pair
+one c e = pair (c ∷ []) (e ∷ [])
+
+abbrev pub outcomes : List Pair
+outcomes =
+    -- format: whatever stood there
+    one (calls.format (device Cold held) (replicate 8 7 ++ (9 ∷ []))) (gives Ready zeroPayload fresh0 fresh1)
+    -- begin: zeros after the payload, no store
+    ∷ one (calls.begin (device Ready held) (units fresh0 fresh1) 1 (3 ∷ [])) (gives (Writing 1 0) (3 ∷ replicate 255 0) fresh0 fresh1)
+    -- the seven stores of a write of width 2; the payload stays
+    ∷ pair (trace 7 (wrote 0 fresh0))
+    (wrote 1 (2 ∷ 0 ∷ 0 ∷ 0 ∷ 0 ∷ [])
+    ∷ wrote 2 (2 ∷ 5 ∷ 0 ∷ 0 ∷ 0 ∷ [])
+    ∷ wrote 3 (2 ∷ 5 ∷ 6 ∷ 0 ∷ 0 ∷ [])
+    ∷ wrote 4 (4 ∷ 5 ∷ 6 ∷ 0 ∷ 0 ∷ [])
+    ∷ wrote 5 (4 ∷ 5 ∷ 6 ∷ 5 ∷ 0 ∷ [])
+    ∷ wrote 6 (4 ∷ 5 ∷ 6 ∷ 5 ∷ 6 ∷ [])
+    ∷ gives Ready held (1 ∷ 5 ∷ 6 ∷ 5 ∷ 6 ∷ []) fresh1
+    ∷ [])
+    -- a cut: a torn marker bit by bit, a torn data byte as given; then Cold with a zero payload
+    ∷ one (call (cut 253) (wrote 0 (0 ∷ 1 ∷ 2 ∷ 3 ∷ 4 ∷ []))) (gives Cold zeroPayload (0 ∷ 1 ∷ 2 ∷ 3 ∷ 4 ∷ []) fresh1)
+    ∷ one (call (cut 2) (wrote 0 (193 ∷ 1 ∷ 2 ∷ 3 ∷ 4 ∷ []))) (gives Cold zeroPayload (195 ∷ 1 ∷ 2 ∷ 3 ∷ 4 ∷ []) fresh1)
+    ∷ one (call (cut 77) (wrote 2 (2 ∷ 1 ∷ 2 ∷ 3 ∷ 4 ∷ []))) (gives Cold zeroPayload (2 ∷ 1 ∷ 77 ∷ 3 ∷ 4 ∷ []) fresh1)
+    ∷ one (call (cut 77) (wrote 4 (4 ∷ 1 ∷ 2 ∷ 3 ∷ 4 ∷ []))) (gives Cold zeroPayload (4 ∷ 1 ∷ 2 ∷ 77 ∷ 4 ∷ []) fresh1)
+    ∷ one (call (cut 77) (cleaning (Recovering 0 1 BToA) (2 ∷ 1 ∷ 2 ∷ 3 ∷ 4 ∷ []) fresh1))
+    (gives Cold zeroPayload (2 ∷ 1 ∷ 77 ∷ 3 ∷ 4 ∷ []) fresh1)
+    -- .. in Cold and Ready it stores nothing
+    ∷ one (call (cut 77) (gives Ready held fresh0 fresh1)) (gives Cold zeroPayload fresh0 fresh1)
+    ∷ one (call (cut 77) (gives Cold held fresh0 fresh1)) (gives Cold zeroPayload fresh0 fresh1)
+    -- two bad units, the lower one first: X copies A to B, A copies B to A
+    ∷ one (call wake (gives Cold held (64 ∷ 1 ∷ 2 ∷ 3 ∷ 4 ∷ []) (2 ∷ 5 ∷ 6 ∷ [])))
+    (cleaning (Recovering 0 0 AToB) (64 ∷ 1 ∷ 2 ∷ 3 ∷ 4 ∷ []) (2 ∷ 5 ∷ 6 ∷ []))
+    ∷ pair (trace 5 (cleaning (Recovering 0 0 AToB) (64 ∷ 1 ∷ 2 ∷ 3 ∷ 4 ∷ []) (2 ∷ 5 ∷ 6 ∷ [])))
+    (cleaning (Recovering 0 1 AToB) (64 ∷ 1 ∷ 2 ∷ 1 ∷ 4 ∷ []) (2 ∷ 5 ∷ 6 ∷ [])
+    ∷ cleaning (Recovering 0 2 AToB) (64 ∷ 1 ∷ 2 ∷ 1 ∷ 2 ∷ []) (2 ∷ 5 ∷ 6 ∷ [])
+    ∷ cleaning (Recovering 1 0 BToA) (1 ∷ 1 ∷ 2 ∷ 1 ∷ 2 ∷ []) (2 ∷ 5 ∷ 6 ∷ [])
+    ∷ cleaning (Recovering 1 1 BToA) (1 ∷ 1 ∷ 2 ∷ 1 ∷ 2 ∷ []) (2 ∷ 6 ∷ 6 ∷ [])
+    ∷ cleaning Ready (1 ∷ 1 ∷ 2 ∷ 1 ∷ 2 ∷ []) (1 ∷ 6 ∷ 6 ∷ [])
+    ∷ [])
+    -- only higher units are looked at; wake leaves a good unit be; B copies A to B
+    ∷ pair (trace 1 (cleaning (Recovering 1 1 AToB) (2 ∷ 1 ∷ 2 ∷ 3 ∷ 4 ∷ []) (2 ∷ 5 ∷ 5 ∷ [])))
+    (cleaning Ready (2 ∷ 1 ∷ 2 ∷ 3 ∷ 4 ∷ []) (1 ∷ 5 ∷ 5 ∷ []) ∷ [])
+    ∷ one (call wake (gives Cold held fresh0 (4 ∷ 5 ∷ 6 ∷ []))) (cleaning (Recovering 1 0 AToB) fresh0 (4 ∷ 5 ∷ 6 ∷ []))
+    ∷ one (call wake (gives Cold held fresh0 fresh1)) (cleaning Ready fresh0 fresh1)
+    -- a refused call gives back the device and the image as they came
+    ∷ one (call step (gives Ready held fresh0 fresh1)) (outcome 5 (device Ready held) (units fresh0 fresh1))
+    ∷ []
+
+abbrev pub EveryOutcome : Type 0
+EveryOutcome = map (λ (r : Pair). r .computed) outcomes ≡ map (λ (r : Pair). r .expected) outcomes
+
+-- ---- Start, accepted and refused, and the part that read shows, also where the copies differ.
+abbrev answered : ℕ → ℕ → List ℕ → Answer
+answered n k widths =
+    record {
+      number = n;
+      device = record { plan = record { count = k; widths = widths }; payload = replicate 256 0; phase = Cold };
+    }
+
+abbrev start : ℕ → List ℕ → Answer
+start k widths = calls.start (record { count = k; widths = widths })
+
+abbrev pub EveryStart : Type 0
+EveryStart =
+    start 2 (2 ∷ 1 ∷ replicate 6 300) ∷ start 9 (2 ∷ 1 ∷ replicate 6 1) ∷ start 2 (2 ∷ 300 ∷ replicate 6 1) ∷ []
+    ≡ answered 0 2 (2 ∷ 1 ∷ replicate 6 300) ∷ answered 1 0 (replicate 8 0) ∷ answered 2 0 (replicate 8 0) ∷ []
+
+abbrev parted : List ℕ
+parted = units (1 ∷ 10 ∷ 11 ∷ 12 ∷ 13 ∷ []) (1 ∷ 20 ∷ 21 ∷ [])
+
+abbrev reads : Phase → ℕ → List ℕ
+reads phase u = calls.read (device phase held) parted u
+
+abbrev pub EveryPart : Type 0
+EveryPart =
+    reads Ready 0 ∷ reads Ready 1 ∷ reads Ready 2 ∷ reads Cold 0 ∷ []
+    ≡ (10 ∷ 11 ∷ []) ∷ (20 ∷ []) ∷ [] ∷ [] ∷ []
+
+-- ---- The ledger after some calls on the same plan, with the saved bytes of unit 1.
+pub record Entry : Type 0 where
+  pub job : Job
+  pub payload : List ℕ
+  pub unit : ℕ
+  pub marker : ℕ
+  pub saved : List ℕ
+
+abbrev entry : Job → List ℕ → ℕ → ℕ → List ℕ → Entry
+entry j payload u m saved = record { job = j; payload = payload; unit = u; marker = m; saved = saved }
+
+abbrev noted : List Call → Entry
+noted cs =
+    let l : Ledger = after plan21 (opening plan21) cs in
+    entry (l .job) (l .payload) (l .unit) (l .marker) (l .saved 1)
+
+abbrev write3 : Call
+write3 = begin 1 (3 ∷ [])
+
+abbrev pub EveryEntry : Type 0
+EveryEntry =
+    noted []
+    ∷ noted (wake ∷ begin 1 [] ∷ step ∷ [])
+    ∷ noted (write3 ∷ [])
+    ∷ noted (write3 ∷ cut 0 ∷ [])
+    ∷ noted (write3 ∷ cut 255 ∷ [])
+    ∷ noted (write3 ∷ step ∷ step ∷ cut 0 ∷ [])
+    ∷ noted (write3 ∷ step ∷ step ∷ cut 4 ∷ [])
+    ∷ noted (write3 ∷ step ∷ step ∷ step ∷ [])
+    ∷ noted (write3 ∷ step ∷ step ∷ step ∷ step ∷ step ∷ [])
+    ∷ noted (write3 ∷ step ∷ cut 0 ∷ wake ∷ [])
+    ∷ noted (write3 ∷ step ∷ cut 0 ∷ wake ∷ step ∷ step ∷ [])
+    ∷ []
+    ≡ entry ready (replicate 256 0) 0 1 (0 ∷ [])
+    ∷ entry ready (replicate 256 0) 0 1 (0 ∷ [])
+    ∷ entry (writing 1 0) (3 ∷ []) 0 1 (0 ∷ [])
+    -- a torn store counts
+    ∷ entry cold (3 ∷ []) 1 1 (0 ∷ [])
+    ∷ entry cold (3 ∷ []) 1 2 (0 ∷ [])
+    -- store w + 2 torn, leaving 2 and leaving 6
+    ∷ entry cold (3 ∷ []) 1 2 (0 ∷ [])
+    ∷ entry cold (3 ∷ []) 1 6 (3 ∷ [])
+    ∷ entry (writing 1 3) (3 ∷ []) 1 4 (3 ∷ [])
+    ∷ entry ready (3 ∷ []) 1 1 (3 ∷ [])
+    ∷ entry (recovering 1 0) (3 ∷ []) 1 2 (0 ∷ [])
+    ∷ entry ready (3 ∷ []) 1 1 (0 ∷ [])
+    ∷ []
+
+-- ---- What inspect may say where unit 1 alone is bad, where none is, and where the image is a byte short.
+abbrev says : List ℕ → ℕ → Option ℕ → Type 0
+says image number unit = Inspects (device Cold held) image number unit
+
+abbrev oneBad : List ℕ
+oneBad = units fresh0 (2 ∷ 0 ∷ 0 ∷ [])
+
+abbrev pub noneBad : List ℕ
+noneBad = units fresh0 fresh1
+
+abbrev short : List ℕ
+short = replicate 7 1
+
+pub record InspectFacts : Type 0 where
+  pub bad : says oneBad 0 (some 1)
+  pub badNotNone : ¬ says oneBad 0 none
+  pub badNotAnother : ¬ says oneBad 0 (some 0)
+  pub badNoUnit : ¬ says oneBad 0 (some 2)
+  pub badNotRefused : ¬ says oneBad 3 none
+  pub good : says noneBad 0 none
+  pub goodNotSome : ¬ says noneBad 0 (some 1)
+  pub refused : says short 3 none
+  pub refusedNamesNone : ¬ says short 3 (some 0)
+  pub refusedNotZero : ¬ says short 0 none

@@ -1,0 +1,10 @@
+pub mod Marker
+pub mod Layout
+pub mod Refusals
+pub mod Stores
+pub mod Calls
+pub mod Ledger
+pub mod PowerCut
+pub mod Drive
+pub mod Cases
+pub mod Edges

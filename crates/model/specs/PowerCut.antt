@@ -1,0 +1,88 @@
+-- THE POWER-CUT THEOREM, demand 3 of document 01, as one statement. It is proved in proofs/Theorem.antt.
+--
+-- Format a device. Then let anything happen: begins of any unit with any payload, steps, power cuts that leave any byte, wakes,
+-- in any order, calls that are refused among them; and at last one more cut. Then one wake and an exact number of steps bring
+-- every marker to OK and both copies of every unit to the payload of its last write that passed.
+use Prim.Native.Nat.{ℕ, zero, suc, _+_, _≤_, _<_}
+use mathlib.Core.Path.{_≡_}
+use mathlib.Core.List.{List, [], _∷_, _++_}
+use lib.ListN.{length, drop, replicate}
+use Rattle.model.specs.declared.Plan.{Plan}
+use Rattle.model.specs.declared.Phase.the-variants.{Ready}
+use Rattle.model.specs.Marker.{OK}
+use Rattle.model.specs.Layout.{Copy, marker, width, total, get, copyOf}
+use Rattle.model.specs.Calls.{Device, Outcome, AllMarkersOk}
+use Rattle.model.specs.Calls as calls
+use Rattle.model.specs.Ledger.{Call, begin, step, cut, wake, Ledger, opening, tells, after}
+
+-- ---- Lists of calls: each call gets the device and the image that the one before left.
+unfoldable pub call : Call → Outcome → Outcome
+call (begin u payload) o = calls.begin (o .device) (o .image) u payload
+call step o = calls.step (o .device) (o .image)
+call (cut m) o = calls.cut (o .device) (o .image) m
+call wake o = calls.wake (o .device) (o .image)
+
+unfoldable pub run : List Call → Outcome → Outcome
+run [] o = o
+run (c ∷ cs) o = run cs (call c o)
+
+unfoldable pub answers : List Call → Outcome → List ℕ
+answers [] o = []
+answers (c ∷ cs) o = call c o .number ∷ answers cs (call c o)
+
+-- a list closed by a cut with byte m
+abbrev pub closedBy : ℕ → List Call → List Call
+closedBy m cs = cs ++ (cut m ∷ [])
+
+-- one wake, and then n steps
+abbrev pub repair : ℕ → List Call
+repair n = wake ∷ replicate n step
+
+-- ---- What the closing cut may leave, and how many steps its repair takes.
+pub data Repairs (p : Plan) (image : List ℕ) : ℕ → Type 0 where
+  -- every marker is OK: none
+  none : AllMarkersOk p image → Repairs p image 0
+  -- one unit's marker isn't: 1 plus the width of that only unit
+  only : (u : ℕ) → u < p .count
+      → ¬ (get p image u marker ≡ OK)
+      → ((v : ℕ) → v < p .count → ¬ (v ≡ u) → get p image v marker ≡ OK)
+      → Repairs p image (1 + width p u)
+
+-- ---- The repair. `cutOff` is what the closing cut left; `before` is the image as it was before format.
+pub record Repaired (p : Plan) (before : List ℕ) (saved : ℕ → List ℕ) (cutOff : Outcome) : Type 0 where
+  pub steps : ℕ
+  pub needed : Repairs p (cutOff .image) steps
+  -- the wake answers 0, and so does each step
+  pub accepted : answers (repair steps) cutOff ≡ replicate (1 + steps) 0
+  -- the phase is Ready after exactly that many steps, and after none fewer
+  pub ready : run (repair steps) cutOff .device .phase ≡ Ready
+  pub notEarlier : (n : ℕ) → n < steps → ¬ (run (repair n) cutOff .device .phase ≡ Ready)
+  -- then every marker is OK, and both copies of every unit are its saved bytes
+  pub markers : AllMarkersOk p (run (repair steps) cutOff .image)
+  pub copies : (u : ℕ) → u < p .count → (c : Copy) → copyOf p (run (repair steps) cutOff .image) u c ≡ saved u
+  -- the bytes after the units, and the image's length, are as they were
+  pub rest : drop (total p) (run (repair steps) cutOff .image) ≡ drop (total p) before
+  pub size : length (run (repair steps) cutOff .image) ≡ length before
+
+-- ---- After the format that gave f: every list of calls that a cut closes.
+pub record Survives (p : Plan) (before : List ℕ) (f : Outcome) (m : ℕ) (cs : List Call) : Type 0 where
+  -- each call answers what the ledger tells: the refusal's number, or 0
+  pub answered : answers (closedBy m cs) f ≡ tells p (opening p) (closedBy m cs)
+  pub repaired : Repaired p before (after p (opening p) (closedBy m cs) .saved) (run (closedBy m cs) f)
+
+-- "A formatted device is the Ready device that an accepted format returns, with the image it leaves."
+abbrev pub PowerCut : Type 0
+PowerCut =
+    (d : Device) (image : List ℕ)
+    → calls.format d image .number ≡ 0
+    → (cs : List Call) (m : ℕ)
+    → Survives (d .plan) image (calls.format d image) m cs
+
+-- The same from start: whatever plan start accepts, and whatever image is long enough for it, format accepts.
+abbrev pub PowerCutFromStart : Type 0
+PowerCutFromStart =
+    (p : Plan) (image : List ℕ)
+    → calls.start p .number ≡ 0
+    → total p ≤ length image
+    → (calls.format (calls.start p .device) image .number ≡ 0)
+    × ((cs : List Call) (m : ℕ) → Survives p image (calls.format (calls.start p .device) image) m cs)

@@ -1,0 +1,117 @@
+-- Document 01, 'Refusals': every refusal of every call of the store, in one table.
+-- Device and ledger are both judged by it, so the power-cut theorem cannot notice a wrong condition here: specs/Cases.antt
+-- has a computed case for each number in each call.
+use Prim.Native.Nat.{ℕ, zero, suc, _+_, _*_}
+use mathlib.Core.List.{List, [], _∷_, _++_}
+use mathlib.Core.Bool.{Bool, true, false, cond, not, _||_}
+use lib.Dec.{eqb, ltb, leb}
+use lib.ListN.{length}
+use Rattle.model.specs.declared.Plan.{Plan}
+use Rattle.model.specs.Layout.{width}
+use Rattle.model.specs.Marker.{OK}
+
+-- A phase without its direction: "a phase (as above, without direction)" is what the ledger keeps.
+pub data Job : Type 0 where
+  cold : Job
+  ready : Job
+  writing : ℕ → ℕ → Job
+  recovering : ℕ → ℕ → Job
+
+abbrev pub isCold : Job → Bool
+isCold cold = true
+isCold ready = false
+isCold (writing u made) = false
+isCold (recovering u made) = false
+
+abbrev pub isReady : Job → Bool
+isReady cold = false
+isReady ready = true
+isReady (writing u made) = false
+isReady (recovering u made) = false
+
+-- "Write of width w, 2w + 3 stores", "Cleanup, w + 1 stores"
+abbrev pub writeTotal : ℕ → ℕ
+writeTotal w = 2 * w + 3
+
+abbrev pub cleanupTotal : ℕ → ℕ
+cleanupTotal w = w + 1
+
+-- What a call is judged by. Of a device and an image it is read off them; the ledger tells it from what it keeps.
+pub record View : Type 0 where
+  pub plan : Plan
+  pub short : Bool
+  pub job : Job
+  pub marker : ℕ → ℕ
+
+-- "1 k is 0 or above 8"
+unfoldable pub badCount : Plan → Bool
+badCount p = eqb (p .count) 0 || ltb 8 (p .count)
+
+-- "2 one of the first k widths is 0 or above 256"
+unfoldable pub badWidths : Plan → ℕ → Bool
+badWidths p zero = false
+badWidths p (suc k) = badWidths p k || (eqb (width p k) 0 || ltb 256 (width p k))
+
+-- "4 a phase whose unit is k or more, or whose stores made are not below the job's total"
+unfoldable pub badJob : Plan → Job → Bool
+badJob p cold = false
+badJob p ready = false
+badJob p (writing u made) = leb (p .count) u || leb (writeTotal (width p u)) made
+badJob p (recovering u made) = leb (p .count) u || leb (cleanupTotal (width p u)) made
+
+pub record Refusal : Type 0 where
+  pub number : ℕ
+  pub holds : Bool
+
+infix 68 _when_
+abbrev pub _when_ : ℕ → Bool → Refusal
+_when_ n t = record { number = n; holds = t }
+
+-- "The lowest number that applies is given": each row of the table rises, so that is the first that holds. 0 if none does.
+unfoldable pub first : List Refusal → ℕ
+first [] = 0
+first (r ∷ rest) = cond (r .holds) (r .number) (first rest)
+
+-- "The plan's author (start and every device call)"
+abbrev pub planRow : Plan → List Refusal
+planRow p = 1 when badCount p ∷ 2 when badWidths p (p .count) ∷ []
+
+-- what every device call refuses: the plan's two, "3 image too short", and 4
+abbrev pub deviceRow : View → List Refusal
+deviceRow v = planRow (v .plan) ++ (3 when v .short ∷ 4 when badJob (v .plan) (v .job) ∷ [])
+
+-- "5 wrong phase (format and wake outside Cold, begin and read outside Ready, step in Cold or Ready); 6 unit k or more;
+-- 7 payload length not w (begin)"; "8 that unit's marker isn't 1 (begin, read)". "Cut and inspect give 1 to 4."
+unfoldable pub startNumber : Plan → ℕ
+startNumber p = first (planRow p)
+
+unfoldable pub formatNumber : View → ℕ
+formatNumber v = first (deviceRow v ++ (5 when not (isCold (v .job)) ∷ []))
+
+unfoldable pub wakeNumber : View → ℕ
+wakeNumber v = first (deviceRow v ++ (5 when not (isCold (v .job)) ∷ []))
+
+unfoldable pub stepNumber : View → ℕ
+stepNumber v = first (deviceRow v ++ (5 when (isCold (v .job) || isReady (v .job)) ∷ []))
+
+unfoldable pub cutNumber : View → ℕ
+cutNumber v = first (deviceRow v)
+
+unfoldable pub inspectNumber : View → ℕ
+inspectNumber v = first (deviceRow v)
+
+unfoldable pub readNumber : View → ℕ → ℕ
+readNumber v u =
+    first
+    (deviceRow v
+    ++ (5 when not (isReady (v .job)) ∷ 6 when leb (v .plan .count) u ∷ 8 when not (eqb (v .marker u) OK) ∷ []))
+
+unfoldable pub beginNumber : View → ℕ → List ℕ → ℕ
+beginNumber v u payload =
+    first
+    (deviceRow v
+    ++ (5 when not (isReady (v .job))
+    ∷ 6 when leb (v .plan .count) u
+    ∷ 7 when not (eqb (length payload) (width (v .plan) u))
+    ∷ 8 when not (eqb (v .marker u) OK)
+    ∷ []))

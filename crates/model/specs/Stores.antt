@@ -1,0 +1,57 @@
+-- Document 01, 'Stores, in order': the stores of a write and of a cleanup as lists, and what each leaves in the image.
+use Prim.Native.Nat.{ℕ, zero, suc}
+use mathlib.Core.List.{List, [], _∷_, _++_}
+use mathlib.Core.Option.{Option, none, some}
+use lib.ListN.{getD}
+use Rattle.model.specs.declared.Plan.{Plan}
+use Rattle.model.specs.declared.Direction.{Direction}
+use Rattle.model.specs.declared.Direction.the-variants.{AToB, BToA}
+use Rattle.model.specs.Marker.{OK, A, B, End, completed, tornBy, markerLeft}
+use Rattle.model.specs.Layout.{Copy, copyA, copyB, Cell, marker, byte, width, get, put}
+
+-- one store: its place, which is a cell of a unit, and its byte
+pub record Store : Type 0 where
+  pub unit : ℕ
+  pub cell : Cell
+  pub value : ℕ
+
+abbrev pub store : ℕ → Cell → ℕ → Store
+store u c x = record { unit = u; cell = c; value = x }
+
+-- the n bytes of a copy from byte i on, in order, each as f gives it
+unfoldable pub copying : ℕ → Copy → (ℕ → ℕ) → ℕ → ℕ → List Store
+copying u c f zero i = []
+copying u c f (suc n) i = store u (byte c i) (f i) ∷ copying u c f n (suc i)
+
+-- "marker 2; A's bytes 0 to w-1 from the payload; marker 4; B's bytes 0 to w-1 from the payload; marker 1."
+unfoldable pub writeStores : Plan → ℕ → List ℕ → List Store
+writeStores p u payload =
+    (store u marker A ∷ copying u copyA (λ i. getD payload i 0) (width p u) 0)
+    ++ ((store u marker B ∷ copying u copyB (λ i. getD payload i 0) (width p u) 0)
+    ++ (store u marker OK ∷ []))
+
+-- the good copy, which a cleanup reads, and the other, which it stores to
+abbrev pub source : Direction → Copy
+source AToB = copyA
+source BToA = copyB
+
+abbrev pub target : Direction → Copy
+target AToB = copyB
+target BToA = copyA
+
+-- "Bytes 0 to w-1 go in order, each read from the good copy at that step; then marker 1."
+unfoldable pub cleanupStores : Plan → List ℕ → ℕ → Direction → List Store
+cleanupStores p image u d =
+    copying u (target d) (λ i. get p image u (byte (source d) i)) (width p u) 0 ++ (store u marker OK ∷ [])
+
+-- "A torn data byte is m." A torn marker goes bit by bit (specs/Marker.antt).
+abbrev pub cellLeft : End → Cell → ℕ → ℕ → ℕ
+cellLeft e marker old new = markerLeft e old new
+cellLeft completed (byte c i) old new = new
+cellLeft (tornBy m) (byte c i) old new = m
+
+-- the image after a store, if there is one: "No other byte is touched."
+unfoldable pub stored : Plan → List ℕ → End → Option Store → List ℕ
+stored p image e none = image
+stored p image e (some s) =
+    put p image (s .unit) (s .cell) (cellLeft e (s .cell) (get p image (s .unit) (s .cell)) (s .value))
