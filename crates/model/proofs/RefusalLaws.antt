@@ -37,11 +37,22 @@ first-rest : (r : Refusal) (xs ys : List Refusal) → first xs ≡ first ys → 
 unfolding first
 first-rest r xs ys e = ap (λ t. cond (r .holds) (r .number) t) e
 
+-- a row that refuses refuses the same with more behind it
+pub first-refused : (xs ys : List Refusal) → ¬ (first xs ≡ 0) → first (xs ++ ys) ≡ first xs
+unfolding first
+first-refused [] ys h = absurd (h refl)
+first-refused (r ∷ xs) ys h = go (r .holds) h (first-refused xs ys)
+  where
+    go : (t : Bool) → ¬ (cond t (r .number) (first xs) ≡ 0) → (¬ (first xs ≡ 0) → first (xs ++ ys) ≡ first xs)
+        → cond t (r .number) (first (xs ++ ys)) ≡ cond t (r .number) (first xs)
+    go true h rest = refl
+    go false h rest = rest h
+
 or-false : (x y : Bool) → x ≡ false → y ≡ false → x || y ≡ false
 or-false true y e f = e
 or-false false y e f = f
 
-false-or : (x y : Bool) → x || y ≡ false → (x ≡ false) × (y ≡ false)
+pub false-or : (x y : Bool) → x || y ≡ false → (x ≡ false) × (y ≡ false)
 false-or true y e = absurd (true≢false e)
 false-or false y e = (refl, e)
 
@@ -176,6 +187,17 @@ module _ (v : View) (ok : PlanOk (v .plan)) (long : v .short ≡ false) where
   unfolding stepNumber
   step-recovering u n e h l =
       device-past _ (rw e (job-recovering (v .plan) u n h l)) ∙ first-skip 5 _ [] (rw e) ∙ first-none
+
+-- past a plan, and past a device, that is not refused
+pub plan-passed : (p : Plan) (rest : List Refusal) → startNumber p ≡ 0 → first (planRow p ++ rest) ≡ first rest
+plan-passed p rest e =
+    let ok = start-says p e in
+    first-skip 1 _ _ (ok .count) ∙ first-skip 2 _ _ (ok .widths)
+
+pub device-passed : (v : View) (rest : List Refusal) → first (deviceRow v) ≡ 0 → first (deviceRow v ++ rest) ≡ first rest
+device-passed v rest e =
+    let h = past v [] e in
+    device-past v (h .plan) (h .long) rest (h .job)
 
 -- ---- two views that no call tells apart: begin looks at the marker of a unit that the plan has
 pub record Alike (v v′ : View) : Type 0 where

@@ -1,0 +1,14 @@
+-- What refusals 1 to 4 look at.
+use Prim.Native.Nat.{ℕ}
+use mathlib.Core.Bool.{Bool}
+use lib.Dec.{ltb, leb}
+use Rattle.model.specs.declared.Plan.{Plan}
+use Rattle.model.specs.declared.Phase.{Phase}
+use Rattle.model.specs.Layout.{total}
+use Rattle.model.specs.Refusals.{View}
+use Rattle.model.specs.Calls.{jobOf}
+
+-- No marker is looked at for refusals 1 to 4.
+abbrev pub seen : Plan → Phase → ℕ → View
+seen p phase length =
+    record { plan = p; short = ltb length (total p); job = jobOf phase; marker = λ u. 0 }

@@ -1,0 +1,139 @@
+-- The next store by the code's own tests on the number of stores made, and what a live device has room for.
+use Prim.Native.Nat.{ℕ, zero, suc, _+_, _-_, _*_, _≤_, _<_}
+use mathlib.Core.Path.{_≡_, refl, ap, sym, _∙_}
+use mathlib.Core.List.{List, []}
+use mathlib.Core.Option.{Option, some}
+use native.Mathlib.Omega.{arith}
+use native.Mathlib.Numerals.{add-one}
+use mathlib.Core.Bool.{false, _||_}
+use lib.Dec.{leb}
+use lib.ListN.{length, getD, getElem?}
+use borrow.Author.Tests.{leb-false, ltb-false}
+use Rattle.mirror.specs.declared.Placed.{Placed}
+use Rattle.model.specs.declared.Plan.{Plan}
+use Rattle.model.specs.declared.Direction.{Direction}
+use Rattle.model.specs.declared.Direction.the-variants.{AToB, BToA}
+use Rattle.model.specs.declared.Phase.{Phase}
+use Rattle.model.specs.declared.Phase.the-variants.{Ready, Writing, Recovering}
+use Rattle.model.specs.Marker.{OK, A, B}
+use Rattle.model.specs.Layout.{copyA, copyB, Cell, marker, byte, width, unitLength, offset, base, total, get}
+use Rattle.model.specs.Stores.{Store, store, source, target, writeStores, cleanupStores}
+use Rattle.model.specs.Calls.{next, jobOf, cleanupFrom, phaseAfter}
+use Rattle.model.specs.Refusals.{writeTotal, cleanupTotal, badJob}
+use Rattle.model.proofs.RefusalLaws.{PlanOk, past, false-or, width-bounds}
+use Rattle.model.proofs.LayoutLaws.{base-bound}
+use Rattle.layout.specs.Seen.{seen}
+use Rattle.model.proofs.StoreLaws.{next-A, next-to-A, next-B, next-to-B, next-OK, next-copy, next-settle, write-goes-on, write-ends, cleanup-goes-on, cleanup-ends}
+use Rattle.mirror.specs.Placed.{placed, Live}
+
+-- what the code looked up of unit u, and the store that it chose
+pub placing : (p : Plan) (u w b l : ℕ) → w ≡ width p u → b ≡ base p u → l ≡ unitLength w
+    → (o : Option Store) (c : Cell) (x a y : ℕ) → o ≡ some (store u c x) → a ≡ offset w c → y ≡ x
+    → _≡_ {A = Placed} (record { base = b; end = b + l; at = a; byte = y }) (placed p o)
+placing p u w b l ew eb el o c x a y e ea ey =
+    let end : b + l ≡ base p u + unitLength (width p u) = rw (eb, el, ew) in
+    let at : a ≡ offset (width p u) c = rw ew at ea in
+    (λ i. record { base = eb i; end = end i; at = at i; byte = ey i }) ∙ ap (placed p) (sym e)
+
+module _ (p : Plan) (payload : List ℕ) (u n w : ℕ) (is : w ≡ width p u) where
+  abbrev nth : Option Store
+  nth = getElem? (writeStores p u payload) n
+
+  abbrev stored : ℕ → Option Store
+  stored k = getElem? (writeStores p u payload) k
+
+  pub write-A : n ≡ 0 → nth ≡ some (store u marker A)
+  unfolding next
+  write-A e = ap stored e ∙ next-A p payload [] u
+
+  pub write-to-A : ¬ (n ≡ 0) → n ≤ w → nth ≡ some (store u (byte copyA (n - 1)) (getD payload (n - 1) 0))
+  unfolding next
+  write-to-A h l = ap stored (omega arith) ∙ next-to-A p payload [] u (n - 1) (omega arith)
+
+  pub write-B : n ≡ w + 1 → nth ≡ some (store u marker B)
+  unfolding next
+  write-B e = ap stored (omega arith) ∙ next-B p payload [] u
+
+  pub write-to-B : w + 1 < n → n ≤ 2 * w + 1
+      → nth ≡ some (store u (byte copyB (n - (w + 2))) (getD payload (n - (w + 2)) 0))
+  unfolding next
+  write-to-B h l = ap stored (omega arith) ∙ next-to-B p payload [] u (n - (w + 2)) (omega arith)
+
+  pub write-OK : 2 * w + 1 < n → n < 2 * w + 3 → nth ≡ some (store u marker OK)
+  unfolding next
+  write-OK h l = ap stored (omega arith) ∙ next-OK p payload [] u
+
+module _ (p : Plan) (image : List ℕ) (u n w : ℕ) (d : Direction) (is : w ≡ width p u) where
+  -- by the direction, as the code reads the good copy: b is where the unit begins
+  pub cleanup-A-to-B : d ≡ AToB → n < w → (b : ℕ) → b ≡ base p u
+      → getElem? (cleanupStores p image u d) n ≡ some (store u (byte copyB n) (getD image (b + (1 + n)) 0))
+  unfolding next get
+  cleanup-A-to-B e h b eb = rw (e, eb) (next-copy p [] image u AToB n (omega arith))
+
+  pub cleanup-B-to-A : d ≡ BToA → n < w → (b : ℕ) → b ≡ base p u
+      → getElem? (cleanupStores p image u d) n ≡ some (store u (byte copyA n) (getD image (b + (1 + w + n)) 0))
+  unfolding next get
+  cleanup-B-to-A e h b eb = rw (e, eb, is) (next-copy p [] image u BToA n (omega arith))
+
+  pub cleanup-OK : w ≤ n → n < width p u + 1 → getElem? (cleanupStores p image u d) n ≡ some (store u marker OK)
+  unfolding next
+  cleanup-OK h l = ap (getElem? (cleanupStores p image u d)) (omega arith) ∙ next-settle p [] image u d
+
+-- ---- what a device that refusals 1 to 4 let pass has
+pub record Room (p : Plan) (phase : Phase) (image : List ℕ) : Type 0 where
+  pub ok : PlanOk p
+  pub long : total p ≤ length image
+  pub job : badJob p (jobOf phase) ≡ false
+
+pub room : (p : Plan) (phase : Phase) (image : List ℕ) → Live p phase image → Room p phase image
+room p phase image e =
+    let h = past (seen p phase (length image)) [] e in
+    record { ok = h .plan; long = ltb-false (length image) (total p) (h .long); job = h .job }
+
+-- the unit of a job
+pub record Work (p : Plan) (u n most : ℕ) (image : List ℕ) : Type 0 where
+  pub unit : u < p .count
+  pub narrow : width p u ≤ 256
+  pub made : n < most
+  pub span : base p u + unitLength (width p u) ≤ length image
+
+work : (p : Plan) (phase : Phase) (image : List ℕ) → Room p phase image → (u made most : ℕ)
+    → (leb (p .count) u || leb most made) ≡ false → Work p u made most image
+work p phase image r u made most e =
+    let h = false-or (leb (p .count) u) (leb most made) e in
+    let hu : u < p .count = leb-false (p .count) u (h .0) in
+    record {
+      unit = hu;
+      narrow = width-bounds p (r .ok) u hu .1;
+      made = leb-false most made (h .1);
+      span = omega (arith, base-bound p (r .ok) u (p .count) hu, r .long);
+    }
+
+pub work-writing : (p : Plan) (phase : Phase) (image : List ℕ) (u made : ℕ) → Live p phase image → phase ≡ Writing u made
+    → Work p u made (writeTotal (width p u)) image
+unfolding badJob
+work-writing p phase image u made e is =
+    let r = room p phase image e in
+    work p phase image r u made _ (rw is at (r .job))
+
+pub work-recovering : (p : Plan) (phase : Phase) (image : List ℕ) (u made : ℕ) (d : Direction) → Live p phase image
+    → phase ≡ Recovering u made d → Work p u made (cleanupTotal (width p u)) image
+unfolding badJob
+work-recovering p phase image u made d e is =
+    let r = room p phase image e in
+    work p phase image r u made _ (rw is at (r .job))
+
+-- ---- the phase after a store, by the code's count
+module _ (p : Plan) (image : List ℕ) (u n w : ℕ) (is : w ≡ width p u) where
+  pub write-last : n + 1 ≡ 2 * w + 3 → phaseAfter p image (Writing u n) ≡ Ready
+  write-last e = write-ends p image u n (omega arith)
+
+  pub write-more : ¬ (n + 1 ≡ 2 * w + 3) → phaseAfter p image (Writing u n) ≡ Writing u (n + 1)
+  write-more h = write-goes-on p image u n (λ e. h (omega arith)) ∙ ap (Writing u) (sym (add-one n))
+
+  pub cleanup-last : (d : Direction) → n + 1 ≡ w + 1 → phaseAfter p image (Recovering u n d) ≡ cleanupFrom p image (u + 1)
+  cleanup-last d e = cleanup-ends p image u n d (omega arith) ∙ ap (cleanupFrom p image) (sym (add-one u))
+
+  pub cleanup-more : (d : Direction) → ¬ (n + 1 ≡ w + 1) → phaseAfter p image (Recovering u n d) ≡ Recovering u (n + 1) d
+  cleanup-more d h =
+      cleanup-goes-on p image u n d (λ e. h (omega arith)) ∙ ap (λ (k : ℕ). Recovering u k d) (sym (add-one n))

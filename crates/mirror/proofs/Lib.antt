@@ -1,0 +1,5 @@
+pub mod Laws
+pub mod Torn
+pub mod Part
+pub mod Search
+pub mod Format

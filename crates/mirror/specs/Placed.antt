@@ -1,0 +1,27 @@
+-- A store of the model as the code places it: the span of its unit in the image, the offset in the span, the byte.
+use Prim.Native.Nat.{ℕ, _+_, _≤_}
+use mathlib.Core.Path.{_≡_}
+use mathlib.Core.List.{List}
+use mathlib.Core.Option.{Option, none, some}
+use lib.ListN.{length}
+use Rattle.mirror.specs.declared.Placed.{Placed}
+use Rattle.model.specs.declared.Phase.{Phase}
+use Rattle.model.specs.declared.Plan.{Plan}
+use Rattle.model.specs.Layout.{width, unitLength, offset, base}
+use Rattle.model.specs.Refusals.{first, deviceRow}
+use Rattle.model.specs.Stores.{Store}
+use Rattle.layout.specs.Seen.{seen}
+
+abbrev pub placed : Plan → Option Store → Placed
+placed p none = record { base = 0; end = 0; at = 0; byte = 0 }
+placed p (some s) =
+    record {
+      base = base p (s .unit);
+      end = base p (s .unit) + unitLength (width p (s .unit));
+      at = offset (width p (s .unit)) (s .cell);
+      byte = s .value;
+    }
+
+-- refusals 1 to 4 do not apply: what the crate above has asked first
+abbrev pub Live : Plan → Phase → List ℕ → Type 0
+Live p phase image = first (deviceRow (seen p phase (length image))) ≡ 0

@@ -1,0 +1,283 @@
+// The mirroring rules in code: the store that comes next, what a cut leaves of it, the phase after it, the search for a bad
+// unit, and format. Its users are the calls of the crate above, which refuse first: the functions here ask that refusals 1 to 4
+// do not apply.
+ghost use mathlib.Core.Path.{_≡_};
+ghost use mathlib.Core.List.{_∷_};
+ghost use mathlib.Core.Bool.{cond};
+ghost use Prim.Native.Nat.{_+_, _-_, _<_, _≤_};
+ghost use lib.Dec.{eqb};
+ghost use lib.ListN.{length, set, getElem?, replicate};
+ghost use Rattle.model.specs.Layout.{width, unitLength, base, total, formatted};
+ghost use Rattle.model.proofs.RefusalLaws.{PlanOk};
+ghost use Rattle.model.specs.Marker.{OK, torn, direction};
+ghost use Rattle.model.specs.Refusals.{writeTotal, cleanupTotal};
+ghost use Rattle.model.specs.Stores.{writeStores, cleanupStores};
+ghost use Rattle.model.specs.Calls.{next, phaseAfter, cleanupFrom};
+ghost use Rattle.mirror.specs.Placed.{placed, Live};
+use layout::base_of;
+use layout::unit_length;
+use layout::width_of;
+use model::Direction;
+use model::Marker;
+use model::Phase;
+use model::Plan;
+
+// A store: its unit's span in the image, the offset in the span, the byte.
+pub struct Placed {
+    pub base: usize,
+    pub end: usize,
+    pub at: usize,
+    pub byte: u8,
+}
+
+// The next store of a write: marker A, copy A, marker B, copy B, marker OK.
+fn write_store(plan: Plan, payload: &[u8], unit: u16, made: u16) -> Placed
+    requires { ⌜ (width plan unit ≤ 256) × (made < writeTotal (width plan unit)) × (length (now payload) ≡ 256) ⌝ }
+    ensures { λ r. ⌜ r ≡ placed plan (getElem? (writeStores plan unit (now (payload .entry))) made) ⌝ }
+{
+    let width = width_of(plan, unit);
+    let base = base_of(plan, unit);
+    let end = base + unit_length(width);
+    let w = width as usize;
+    let n = made as usize;
+    if n == 0 {
+        return Placed {
+            base: base,
+            end: end,
+            at: 0,
+            byte: Marker::A,
+        };
+    }
+    if n <= w {
+        return Placed {
+            base: base,
+            end: end,
+            at: n,
+            byte: payload[n - 1],
+        };
+    }
+    if n == w + 1 {
+        return Placed {
+            base: base,
+            end: end,
+            at: 0,
+            byte: Marker::B,
+        };
+    }
+    if n <= 2 * w + 1 {
+        return Placed {
+            base: base,
+            end: end,
+            at: n - 1,
+            byte: payload[n - (w + 2)],
+        };
+    }
+    Placed {
+        base: base,
+        end: end,
+        at: 0,
+        byte: Marker::OK,
+    }
+}
+
+// The next store of a cleanup: a byte of the good copy as it is now, or marker OK.
+fn cleanup_store(plan: Plan, image: &[u8], unit: u16, made: u16, direction: Direction) -> Placed
+    requires { ⌜ (base plan unit + unitLength (width plan unit) ≤ length (now image)) × (made < cleanupTotal (width plan unit)) ⌝ }
+    ensures { λ r. ⌜ r ≡ placed plan (getElem? (cleanupStores plan (now (image .entry)) unit direction) made) ⌝ }
+{
+    let width = width_of(plan, unit);
+    let base = base_of(plan, unit);
+    let end = base + unit_length(width);
+    let w = width as usize;
+    let n = made as usize;
+    if w <= n {
+        return Placed {
+            base: base,
+            end: end,
+            at: 0,
+            byte: Marker::OK,
+        };
+    }
+    match direction {
+        Direction::AToB => Placed {
+            base: base,
+            end: end,
+            at: 1 + w + n,
+            byte: image[base + (1 + n)],
+        },
+        Direction::BToA => Placed {
+            base: base,
+            end: end,
+            at: 1 + n,
+            byte: image[base + (1 + w + n)],
+        },
+    }
+}
+
+// The store that comes next. Cold and Ready have none.
+pub fn next_store(plan: Plan, payload: &[u8], phase: Phase, image: &[u8]) -> Placed
+    requires { ⌜ Live plan phase (now image) × (length (now payload) ≡ 256) ⌝ }
+    ensures { λ r. ⌜ r ≡ placed plan (next plan (now (payload .entry)) (now (image .entry)) phase) ⌝ }
+{
+    match phase {
+        Phase::Cold => Placed {
+            base: 0,
+            end: 0,
+            at: 0,
+            byte: 0,
+        },
+        Phase::Ready => Placed {
+            base: 0,
+            end: 0,
+            at: 0,
+            byte: 0,
+        },
+        Phase::Writing { unit, made } => write_store(plan, payload, unit, made),
+        Phase::Recovering {
+            unit,
+            made,
+            direction,
+        } => cleanup_store(plan, image, unit, made, direction),
+    }
+}
+
+// The storing routine: it is lent the writable span of its own unit, from the marker on, and nothing else.
+fn put(span: &mut [u8], at: usize, byte: u8)
+    requires { ⌜ at < length (now span) ⌝ }
+    ensures { λ _. ⌜ now (span .exit) ≡ set (now (span .entry)) at byte ⌝ }
+{
+    span[at] = byte;
+}
+
+// Makes a store.
+pub fn store_at(image: &mut [u8], base: usize, end: usize, at: usize, byte: u8)
+    requires { ⌜ (base + at < end) × (end ≤ length (now image)) ⌝ }
+    ensures { λ _. ⌜ now (image .exit) ≡ set (now (image .entry)) (base + at) byte ⌝ }
+{
+    put(&mut image[base..end], at, byte);
+}
+
+// Each bit is the new code's where m has a 1, and the old marker's where m has a 0.
+fn torn_marker(old: u8, new: u8, m: u8) -> u8
+    ensures { λ r. ⌜ r ≡ torn old new m ⌝ }
+{
+    (new & m) | (old & !m)
+}
+
+// What a cut with byte m leaves of a store: a torn marker goes bit by bit, a torn data byte is m.
+pub fn torn_byte(at: usize, old: u8, new: u8, m: u8) -> u8
+    ensures { λ r. ⌜ r ≡ cond (eqb at 0) (torn old new m) m ⌝ }
+{
+    if at == 0 { torn_marker(old, new, m) } else { m }
+}
+
+// The way a cleanup copies, by the marker that it finds.
+fn direction_of(marker: u8) -> Direction
+    ensures { λ r. ⌜ r ≡ direction marker ⌝ }
+{
+    let meaning = Marker::classify(marker);
+    match meaning {
+        Marker::Clean => Direction::AToB,
+        Marker::WritingToA => Direction::BToA,
+        Marker::WritingToB => Direction::AToB,
+        Marker::Corrupted => Direction::AToB,
+    }
+}
+
+// The cleanup of the lowest unit from `from` on whose marker isn't OK, or Ready.
+pub fn cleanup_from(plan: Plan, image: &[u8], from: u16) -> Phase
+    requires { ⌜ PlanOk plan × (total plan ≤ length (now image)) ⌝ }
+    ensures { λ r. ⌜ r ≡ cleanupFrom plan (now (image .entry)) from ⌝ }
+{
+    let count = plan.count;
+    let mut unit = from;
+    let mut at = base_of(plan, from);
+    while unit < count {
+        let marker = image[at];
+        if marker != Marker::OK {
+            let direction = direction_of(marker);
+            return Phase::Recovering {
+                unit: unit,
+                made: 0,
+                direction: direction,
+            };
+        }
+        at = at + unit_length(width_of(plan, unit));
+        unit = unit + 1;
+    }
+    Phase::Ready
+}
+
+// The phase after a store; `image` is the image after it.
+pub fn phase_after(plan: Plan, phase: Phase, image: &[u8]) -> Phase
+    requires { ⌜ Live plan phase (now image) ⌝ }
+    ensures { λ r. ⌜ r ≡ phaseAfter plan (now (image .entry)) phase ⌝ }
+{
+    match phase {
+        Phase::Cold => Phase::Cold,
+        Phase::Ready => Phase::Ready,
+        Phase::Writing { unit, made } => {
+            let width = width_of(plan, unit);
+            let next = made + 1;
+            if next == 2 * width + 3 {
+                return Phase::Ready;
+            }
+            Phase::Writing {
+                unit: unit,
+                made: next,
+            }
+        }
+        Phase::Recovering {
+            unit,
+            made,
+            direction,
+        } => {
+            let width = width_of(plan, unit);
+            let next = made + 1;
+            if next == width + 1 {
+                return cleanup_from(plan, image, unit + 1);
+            }
+            Phase::Recovering {
+                unit: unit,
+                made: next,
+                direction: direction,
+            }
+        }
+    }
+}
+
+// Zeros in all of a span.
+fn clear(span: &mut [u8])
+    ensures { λ _. ⌜ now (span .exit) ≡ replicate (length (now (span .entry))) 0 ⌝ }
+{
+    let mut i: usize = 0;
+    while i < span.len() {
+        span[i] = 0;
+        i = i + 1;
+    }
+}
+
+// A unit as format leaves it: marker OK, and zeros.
+fn format_unit(span: &mut [u8])
+    requires { ⌜ 0 < length (now span) ⌝ }
+    ensures { λ _. ⌜ now (span .exit) ≡ OK ∷ replicate (length (now (span .entry)) - 1) 0 ⌝ }
+{
+    clear(&mut span[..]);
+    span[0] = Marker::OK;
+}
+
+// All units, one after the other; what lies after them is left be.
+pub fn format_units(plan: Plan, image: &mut [u8])
+    requires { ⌜ PlanOk plan × (total plan ≤ length (now image)) ⌝ }
+    ensures { λ _. ⌜ now (image .exit) ≡ formatted plan (now (image .entry)) ⌝ }
+{
+    let count = plan.count;
+    let mut unit: u16 = 0;
+    let mut base: usize = 0;
+    while unit < count {
+        let end = base + unit_length(width_of(plan, unit));
+        format_unit(&mut image[base..end]);
+        base = end;
+        unit = unit + 1;
+    }
+}
