@@ -2,66 +2,70 @@
 use Prim.Native.Nat.{ℕ, zero, suc, _+_, _-_, _*_, _≤_, _<_}
 use mathlib.Core.Path.{_≡_, refl, ap, sym, _∙_}
 use mathlib.Core.List.{List, []}
-use mathlib.Core.Option.{Option, some}
+use mathlib.Core.Option.{Option, none, some}
 use native.Mathlib.Omega.{arith}
 use native.Mathlib.Numerals.{add-one}
-use mathlib.Core.Bool.{false, _||_}
-use lib.Dec.{leb}
-use lib.ListN.{length, getD, getElem?}
-use borrow.Author.Tests.{leb-false, ltb-false}
+use mathlib.Core.Bool.{false, cond, _||_}
+use lib.Dec.{eqb, leb}
+use lib.ListN.{length, getD, getElem?, set}
+use borrow.Author.Tests.{eq-eqb, ne-eqb, leb-false, ltb-false}
 use Rattle.mirror.specs.declared.Placed.{Placed}
 use Rattle.model.specs.declared.Plan.{Plan}
 use Rattle.model.specs.declared.Direction.{Direction}
 use Rattle.model.specs.declared.Direction.the-variants.{AToB, BToA}
 use Rattle.model.specs.declared.Phase.{Phase}
 use Rattle.model.specs.declared.Phase.the-variants.{Ready, Writing, Recovering}
-use Rattle.model.specs.Marker.{OK, A, B}
-use Rattle.model.specs.Layout.{copyA, copyB, Cell, marker, byte, width, unitLength, offset, base, total, get}
-use Rattle.model.specs.Stores.{Store, store, source, target, writeStores, cleanupStores}
+use Rattle.model.specs.Marker.{OK, A, B, torn, End, completed, tornBy}
+use Rattle.model.specs.Layout.{copyA, copyB, Cell, marker, byte, width, unitLength, offset, base, total, place, get, put}
+use Rattle.model.specs.Stores.{Store, store, writeStores, cleanupStores, cellLeft, stored}
 use Rattle.model.specs.Calls.{next, jobOf, cleanupFrom, phaseAfter}
 use Rattle.model.specs.Refusals.{writeTotal, cleanupTotal, badJob}
 use Rattle.model.proofs.RefusalLaws.{PlanOk, past, false-or, width-bounds}
-use Rattle.model.proofs.LayoutLaws.{base-bound}
+use Rattle.model.proofs.LayoutLaws.{InUnit, offset-bound, base-bound}
 use Rattle.layout.specs.Seen.{seen}
 use Rattle.model.proofs.StoreLaws.{next-A, next-to-A, next-B, next-to-B, next-OK, next-copy, next-settle, write-goes-on, write-ends, cleanup-goes-on, cleanup-ends}
-use Rattle.mirror.specs.Placed.{placed, Live}
+use Rattle.mirror.specs.Placed.{placed, Chosen, Comes, Live}
 
 -- what the code looked up of unit u, and the store that it chose
 pub placing : (p : Plan) (u w b l : ℕ) → w ≡ width p u → b ≡ base p u → l ≡ unitLength w
-    → (o : Option Store) (c : Cell) (x a y : ℕ) → o ≡ some (store u c x) → a ≡ offset w c → y ≡ x
-    → _≡_ {A = Placed} (record { base = b; end = b + l; at = a; byte = y }) (placed p o)
-placing p u w b l ew eb el o c x a y e ea ey =
+    → (o : Option Store) (c : Cell) (x a y : ℕ) → o ≡ some (store u c x) → a ≡ offset w c → y ≡ x → InUnit w c
+    → Chosen p u o (record { base = b; end = b + l; at = a; byte = y })
+placing p u w b l ew eb el o c x a y e ea ey h =
     let end : b + l ≡ base p u + unitLength (width p u) = rw (eb, el, ew) in
     let at : a ≡ offset (width p u) c = rw ew at ea in
-    (λ i. record { base = eb i; end = end i; at = at i; byte = ey i }) ∙ ap (placed p) (sym e)
+    record {
+      is = (λ i. record { base = eb i; end = end i; at = at i; byte = ey i }) ∙ ap (placed p) (sym e);
+      inside = omega (arith, offset-bound w c h);
+      ends = end;
+    }
 
 module _ (p : Plan) (payload : List ℕ) (u n w : ℕ) (is : w ≡ width p u) where
   abbrev nth : Option Store
   nth = getElem? (writeStores p u payload) n
 
-  abbrev stored : ℕ → Option Store
-  stored k = getElem? (writeStores p u payload) k
+  abbrev after : ℕ → Option Store
+  after k = getElem? (writeStores p u payload) k
 
   pub write-A : n ≡ 0 → nth ≡ some (store u marker A)
   unfolding next
-  write-A e = ap stored e ∙ next-A p payload [] u
+  write-A e = ap after e ∙ next-A p payload [] u
 
   pub write-to-A : ¬ (n ≡ 0) → n ≤ w → nth ≡ some (store u (byte copyA (n - 1)) (getD payload (n - 1) 0))
   unfolding next
-  write-to-A h l = ap stored (omega arith) ∙ next-to-A p payload [] u (n - 1) (omega arith)
+  write-to-A h l = ap after (omega arith) ∙ next-to-A p payload [] u (n - 1) (omega arith)
 
   pub write-B : n ≡ w + 1 → nth ≡ some (store u marker B)
   unfolding next
-  write-B e = ap stored (omega arith) ∙ next-B p payload [] u
+  write-B e = ap after (omega arith) ∙ next-B p payload [] u
 
   pub write-to-B : w + 1 < n → n ≤ 2 * w + 1
       → nth ≡ some (store u (byte copyB (n - (w + 2))) (getD payload (n - (w + 2)) 0))
   unfolding next
-  write-to-B h l = ap stored (omega arith) ∙ next-to-B p payload [] u (n - (w + 2)) (omega arith)
+  write-to-B h l = ap after (omega arith) ∙ next-to-B p payload [] u (n - (w + 2)) (omega arith)
 
   pub write-OK : 2 * w + 1 < n → n < 2 * w + 3 → nth ≡ some (store u marker OK)
   unfolding next
-  write-OK h l = ap stored (omega arith) ∙ next-OK p payload [] u
+  write-OK h l = ap after (omega arith) ∙ next-OK p payload [] u
 
 module _ (p : Plan) (image : List ℕ) (u n w : ℕ) (d : Direction) (is : w ≡ width p u) where
   -- by the direction, as the code reads the good copy: b is where the unit begins
@@ -137,3 +141,63 @@ module _ (p : Plan) (image : List ℕ) (u n w : ℕ) (is : w ≡ width p u) wher
   pub cleanup-more : (d : Direction) → ¬ (n + 1 ≡ w + 1) → phaseAfter p image (Recovering u n d) ≡ Recovering u (n + 1) d
   cleanup-more d h =
       cleanup-goes-on p image u n d (λ e. h (omega arith)) ∙ ap (λ (k : ℕ). Recovering u k d) (sym (add-one n))
+
+-- ---- a placed store is the model's
+torn-cell : (w : ℕ) (c : Cell) (old new m : ℕ) → cond (eqb (offset w c) 0) (torn old new m) m ≡ cellLeft (tornBy m) c old new
+torn-cell w marker old new m = refl
+torn-cell w (byte copyA i) old new m = rw (ne-eqb (1 + i) 0 (omega arith))
+torn-cell w (byte copyB i) old new m = rw (ne-eqb (1 + w + i) 0 (omega arith))
+
+whole-cell : (c : Cell) (old new : ℕ) → new ≡ cellLeft completed c old new
+whole-cell marker old new = refl
+whole-cell (byte c i) old new = refl
+
+module _ (p : Plan) (image : List ℕ) where
+  placed-none : (e : End) (o : Option Store) → placed p o .end ≡ 0 → image ≡ stored p image e o
+  unfolding stored
+  placed-none e none z = refl
+  placed-none e (some s) z = absurd (omega arith)
+
+  placed-made : (o : Option Store) → ¬ (placed p o .end ≡ 0)
+      → set image (placed p o .base + placed p o .at) (placed p o .byte) ≡ stored p image completed o
+  unfolding stored put
+  placed-made none h = absurd (h refl)
+  placed-made (some s) h =
+      ap (λ (x : ℕ). set image (place p (s .unit) (s .cell)) x) (whole-cell (s .cell) (get p image (s .unit) (s .cell)) (s .value))
+
+  placed-torn : (m : ℕ) (o : Option Store) → ¬ (placed p o .end ≡ 0)
+      → set image (placed p o .base + placed p o .at)
+      (cond (eqb (placed p o .at) 0) (torn (getD image (placed p o .base + placed p o .at) 0) (placed p o .byte) m) m)
+      ≡ stored p image (tornBy m) o
+  unfolding stored put get
+  placed-torn m none h = absurd (h refl)
+  placed-torn m (some s) h =
+      ap (λ (x : ℕ). set image (place p (s .unit) (s .cell)) x)
+      (torn-cell (width p (s .unit)) (s .cell) (getD image (place p (s .unit) (s .cell)) 0) (s .value) m)
+
+  module _ (o : Option Store) (r : Placed) (is : r ≡ placed p o) where
+    pub no-store : (e : End) → r .end ≡ 0 → image ≡ stored p image e o
+    no-store e z = placed-none e o (sym (ap (λ (x : Placed). x .end) is) ∙ z)
+
+    pub store-made : ¬ (r .end ≡ 0) → set image (r .base + r .at) (r .byte) ≡ stored p image completed o
+    store-made h = rw is (placed-made o (rw is at h))
+
+    pub store-torn : (m : ℕ) → ¬ (r .end ≡ 0)
+        → set image (r .base + r .at) (cond (eqb (r .at) 0) (torn (getD image (r .base + r .at) 0) (r .byte) m) m)
+        ≡ stored p image (tornBy m) o
+    store-torn m h = rw is (placed-torn m o (rw is at h))
+
+-- ---- a chosen store comes next, or none does
+pub chosen-comes : (p : Plan) (image : List ℕ) (u : ℕ) (o o′ : Option Store) (r : Placed) → Chosen p u o r → o′ ≡ o
+    → base p u + unitLength (width p u) ≤ length image → Comes p image o′ r
+chosen-comes p image u o o′ r h e l =
+    record {
+      is = h .is ∙ ap (placed p) (sym e);
+      inside = λ z. h .inside;
+      long = omega (arith, h .ends);
+    }
+
+pub none-comes : (p : Plan) (image : List ℕ) (o : Option Store) → o ≡ none
+    → Comes p image o (record { base = 0; end = 0; at = 0; byte = 0 })
+none-comes p image o e =
+    record { is = ap (placed p) (sym e); inside = λ z. absurd (z refl); long = omega arith }

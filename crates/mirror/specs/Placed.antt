@@ -1,5 +1,5 @@
 -- A store of the model as the code places it: the span of its unit in the image, the offset in the span, the byte.
-use Prim.Native.Nat.{ℕ, _+_, _≤_}
+use Prim.Native.Nat.{ℕ, _+_, _<_, _≤_}
 use mathlib.Core.Path.{_≡_}
 use mathlib.Core.List.{List}
 use mathlib.Core.Option.{Option, none, some}
@@ -21,6 +21,18 @@ placed p (some s) =
       at = offset (width p (s .unit)) (s .cell);
       byte = s .value;
     }
+
+-- r is the store o of unit u, and lies in the unit's span
+pub record Chosen (p : Plan) (u : ℕ) (o : Option Store) (r : Placed) : Type 0 where
+  pub is : r ≡ placed p o
+  pub inside : r .base + r .at < r .end
+  pub ends : r .end ≡ base p u + unitLength (width p u)
+
+-- r is the store o, if there is one, and lies in the image
+pub record Comes (p : Plan) (image : List ℕ) (o : Option Store) (r : Placed) : Type 0 where
+  pub is : r ≡ placed p o
+  pub inside : ¬ (r .end ≡ 0) → r .base + r .at < r .end
+  pub long : r .end ≤ length image
 
 -- refusals 1 to 4 do not apply: what the crate above has asked first
 abbrev pub Live : Plan → Phase → List ℕ → Type 0

@@ -9,11 +9,11 @@ ghost use lib.Dec.{eqb};
 ghost use lib.ListN.{length, set, getElem?, replicate};
 ghost use Rattle.model.specs.Layout.{width, unitLength, base, total, formatted};
 ghost use Rattle.model.proofs.RefusalLaws.{PlanOk};
-ghost use Rattle.model.specs.Marker.{OK, torn, direction};
+ghost use Rattle.model.specs.Marker.{OK, torn, direction, completed, tornBy};
 ghost use Rattle.model.specs.Refusals.{writeTotal, cleanupTotal};
-ghost use Rattle.model.specs.Stores.{writeStores, cleanupStores};
+ghost use Rattle.model.specs.Stores.{writeStores, cleanupStores, stored};
 ghost use Rattle.model.specs.Calls.{next, phaseAfter, cleanupFrom};
-ghost use Rattle.mirror.specs.Placed.{placed, Live};
+ghost use Rattle.mirror.specs.Placed.{Live, Chosen, Comes};
 use layout::base_of;
 use layout::unit_length;
 use layout::width_of;
@@ -23,17 +23,17 @@ use model::Phase;
 use model::Plan;
 
 // A store: its unit's span in the image, the offset in the span, the byte.
-pub struct Placed {
-    pub base: usize,
-    pub end: usize,
-    pub at: usize,
-    pub byte: u8,
+struct Placed {
+    base: usize,
+    end: usize,
+    at: usize,
+    byte: u8,
 }
 
 // The next store of a write: marker A, copy A, marker B, copy B, marker OK.
 fn write_store(plan: Plan, payload: &[u8], unit: u16, made: u16) -> Placed
     requires { ⌜ (width plan unit ≤ 256) × (made < writeTotal (width plan unit)) × (length (now payload) ≡ 256) ⌝ }
-    ensures { λ r. ⌜ r ≡ placed plan (getElem? (writeStores plan unit (now (payload .entry))) made) ⌝ }
+    ensures { λ r. ⌜ Chosen plan unit (getElem? (writeStores plan unit (now (payload .entry))) made) r ⌝ }
 {
     let width = width_of(plan, unit);
     let base = base_of(plan, unit);
@@ -83,7 +83,7 @@ fn write_store(plan: Plan, payload: &[u8], unit: u16, made: u16) -> Placed
 // The next store of a cleanup: a byte of the good copy as it is now, or marker OK.
 fn cleanup_store(plan: Plan, image: &[u8], unit: u16, made: u16, direction: Direction) -> Placed
     requires { ⌜ (base plan unit + unitLength (width plan unit) ≤ length (now image)) × (made < cleanupTotal (width plan unit)) ⌝ }
-    ensures { λ r. ⌜ r ≡ placed plan (getElem? (cleanupStores plan (now (image .entry)) unit direction) made) ⌝ }
+    ensures { λ r. ⌜ Chosen plan unit (getElem? (cleanupStores plan (now (image .entry)) unit direction) made) r ⌝ }
 {
     let width = width_of(plan, unit);
     let base = base_of(plan, unit);
@@ -114,10 +114,10 @@ fn cleanup_store(plan: Plan, image: &[u8], unit: u16, made: u16, direction: Dire
     }
 }
 
-// The store that comes next. Cold and Ready have none.
-pub fn next_store(plan: Plan, payload: &[u8], phase: Phase, image: &[u8]) -> Placed
+// The store that comes next. Cold and Ready have none: its span ends at 0.
+fn next_store(plan: Plan, payload: &[u8], phase: Phase, image: &[u8]) -> Placed
     requires { ⌜ Live plan phase (now image) × (length (now payload) ≡ 256) ⌝ }
-    ensures { λ r. ⌜ r ≡ placed plan (next plan (now (payload .entry)) (now (image .entry)) phase) ⌝ }
+    ensures { λ r. ⌜ Comes plan (now (image .entry)) (next plan (now (payload .entry)) (now (image .entry)) phase) r ⌝ }
 {
     match phase {
         Phase::Cold => Placed {
@@ -149,8 +149,8 @@ fn put(span: &mut [u8], at: usize, byte: u8)
     span[at] = byte;
 }
 
-// Makes a store.
-pub fn store_at(image: &mut [u8], base: usize, end: usize, at: usize, byte: u8)
+// Lends the storing routine its span.
+fn store_at(image: &mut [u8], base: usize, end: usize, at: usize, byte: u8)
     requires { ⌜ (base + at < end) × (end ≤ length (now image)) ⌝ }
     ensures { λ _. ⌜ now (image .exit) ≡ set (now (image .entry)) (base + at) byte ⌝ }
 {
@@ -165,10 +165,40 @@ fn torn_marker(old: u8, new: u8, m: u8) -> u8
 }
 
 // What a cut with byte m leaves of a store: a torn marker goes bit by bit, a torn data byte is m.
-pub fn torn_byte(at: usize, old: u8, new: u8, m: u8) -> u8
+fn torn_byte(at: usize, old: u8, new: u8, m: u8) -> u8
     ensures { λ r. ⌜ r ≡ cond (eqb at 0) (torn old new m) m ⌝ }
 {
     if at == 0 { torn_marker(old, new, m) } else { m }
+}
+
+// Makes the next store.
+pub fn make_store(plan: Plan, payload: &[u8], phase: Phase, image: &mut [u8])
+    requires { ⌜ Live plan phase (now image) × (length (now payload) ≡ 256) ⌝ }
+    ensures { λ _. ⌜ now (image .exit) ≡ stored plan (now (image .entry)) completed (next plan (now (payload .entry)) (now (image .entry)) phase) ⌝ }
+{
+    let store = next_store(plan, payload, phase, &image[..]);
+    let base = store.base;
+    let end = store.end;
+    if end == 0 {
+        return;
+    }
+    store_at(&mut image[..], base, end, store.at, store.byte);
+}
+
+// Tears the next store: a cut with byte m.
+pub fn tear_store(plan: Plan, payload: &[u8], phase: Phase, image: &mut [u8], m: u8)
+    requires { ⌜ Live plan phase (now image) × (length (now payload) ≡ 256) ⌝ }
+    ensures { λ _. ⌜ now (image .exit) ≡ stored plan (now (image .entry)) (tornBy m) (next plan (now (payload .entry)) (now (image .entry)) phase) ⌝ }
+{
+    let store = next_store(plan, payload, phase, &image[..]);
+    let base = store.base;
+    let end = store.end;
+    let at = store.at;
+    if end == 0 {
+        return;
+    }
+    let byte = torn_byte(at, image[base + at], store.byte, m);
+    store_at(&mut image[..], base, end, at, byte);
 }
 
 // The way a cleanup copies, by the marker that it finds.

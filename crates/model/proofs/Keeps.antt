@@ -19,7 +19,7 @@ use Rattle.model.specs.Layout.{Copy, copyA, copyB, marker, byte, width, 
 use Rattle.model.specs.Refusals.{Job, View, isCold, isReady, stepNumber}
 use Rattle.model.specs.Refusals as refusals
 use Rattle.model.specs.Stores.{Store, store, source, target, stored}
-use Rattle.model.specs.Calls.{Device, Outcome, outcome, asBegun, asStepped, asWoken, asCut, view, jobOf, next, imageAfter, phaseAfter, cleanupFrom}
+use Rattle.model.specs.Calls.{Device, Outcome, outcome, padded, asBegun, asStepped, asWoken, asCut, view, jobOf, next, imageAfter, phaseAfter, cleanupFrom}
 use Rattle.model.specs.Calls as calls
 use Rattle.model.specs.Ledger.{Ledger, Call, begin, step, cut, wake, markerOf, judged, told, saving, accepted, fed}
 use Rattle.model.specs.Ledger as ledger
@@ -412,11 +412,11 @@ module _ (p : Plan) (ok : PlanOk p) (before : List ℕ) (l : Ledger) (o : Outcom
 
   -- ---- begin
   begin-kept : (v : ℕ) (payload : List ℕ) → Began (judged p l) v payload
-      → Inv p before (accepted p l (begin v payload)) (outcome 0 (asBegun v payload d) image)
+      → Inv p before (accepted p l (begin v payload)) (outcome 0 (asBegun v (padded payload) d) image)
   unfolding accepted
   begin-kept v payload began = go (inv .stage)
     where
-      loaded : Loaded p payload (asBegun v payload d .payload) v
+      loaded : Loaded p payload (padded payload) v
       loaded =
           record {
             size = began .size;
@@ -424,7 +424,7 @@ module _ (p : Plan) (ok : PlanOk p) (before : List ℕ) (l : Ledger) (o : Outcom
           }
 
       go : Stage p image l (d .payload)
-          → Inv p before (accepted p l (begin v payload)) (outcome 0 (asBegun v payload d) image)
+          → Inv p before (accepted p l (begin v payload)) (outcome 0 (asBegun v (padded payload) d) image)
       go (resting job mk both) =
           record {
             plan = inv .plan;

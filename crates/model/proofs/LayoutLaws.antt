@@ -10,9 +10,15 @@ use lib.Seq.{getD-set-same, getD-set-other, drop-set-lt, getD-take, getD-drop, g
 use Rattle.model.specs.declared.Plan.{Plan}
 use Rattle.model.specs.Layout.{Copy, copyA, copyB, Cell, marker, byte, width, unitLength, offset, base, total, place, get, put, copyOf, fresh, formatted}
 use Rattle.model.specs.Marker.{OK, End, completed, markerLeft}
-use Rattle.model.specs.Stores.{store, cellLeft, stored}
+use Rattle.model.specs.Stores.{Store, store, cellLeft, stored}
 use Rattle.model.proofs.Compare.{Order, below, above, order}
 use Rattle.model.proofs.RefusalLaws.{PlanOk}
+
+-- a store keeps the image's length
+pub length-stored : (p : Plan) (image : List ℕ) (e : End) (o : Option Store) → length (stored p image e o) ≡ length image
+unfolding stored put
+length-stored p image e none = refl
+length-stored p image e (some s) = length-set image (place p (s .unit) (s .cell)) _
 
 -- a cell of a unit of width w
 abbrev pub InUnit : ℕ → Cell → Type 0
@@ -52,7 +58,7 @@ pub bytes-apart : (c : Copy) (i j : ℕ) → ¬ (j ≡ i) → Apart (byte c i) (
 bytes-apart copyA i j h = h
 bytes-apart copyB i j h = h
 
-offset-bound : (w : ℕ) (c : Cell) → InUnit w c → offset w c < unitLength w
+pub offset-bound : (w : ℕ) (c : Cell) → InUnit w c → offset w c < unitLength w
 offset-bound w marker h = omega arith
 offset-bound w (byte copyA i) h = omega arith
 offset-bound w (byte copyB i) h = omega arith

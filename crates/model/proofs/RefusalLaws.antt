@@ -2,11 +2,11 @@
 use Prim.Native.Nat.{ℕ, zero, suc, _+_, _*_, _≤_, _<_}
 use mathlib.Core.Path.{_≡_, refl, ap, sym, _∙_}
 use mathlib.Core.List.{List, [], _∷_, _++_}
-use mathlib.Core.Bool.{Bool, true, false, cond, not, _||_, true≢false, false≢true}
+use mathlib.Core.Bool.{Bool, true, false, cond, not, _||_, _&&_, true≢false, false≢true}
 use native.Mathlib.Omega.{arith}
 use lib.Dec.{eqb, ltb, leb}
 use lib.ListN.{length}
-use borrow.Author.Tests.{ltb-false, leb-false, eqb-true, eqb-false, lt-leb, le-leb, not-false}
+use borrow.Author.Tests.{ltb-true, ltb-false, leb-false, eqb-true, eqb-false, lt-leb, le-leb, not-false}
 use Rattle.model.specs.declared.Plan.{Plan}
 use Rattle.model.specs.Layout.{width}
 use Rattle.model.specs.Marker.{OK}
@@ -47,6 +47,39 @@ first-refused (r ∷ xs) ys h = go (r .holds) h (first-refused xs ys)
         → cond t (r .number) (first (xs ++ ys)) ≡ cond t (r .number) (first xs)
     go true h rest = refl
     go false h rest = rest h
+
+-- and a row passes if it does with more behind it
+pub first-front : (xs ys : List Refusal) → first (xs ++ ys) ≡ 0 → first xs ≡ 0
+unfolding first
+first-front [] ys e = refl
+first-front (r ∷ xs) ys e = go (r .holds) e (first-front xs ys)
+  where
+    go : (t : Bool) → cond t (r .number) (first (xs ++ ys)) ≡ 0 → (first (xs ++ ys) ≡ 0 → first xs ≡ 0)
+        → cond t (r .number) (first xs) ≡ 0
+    go true e rest = e
+    go false e rest = rest e
+
+and-true : (x y : Bool) → x && y ≡ true → (x ≡ true) × (y ≡ true)
+and-true true y e = (refl, e)
+and-true false y e = absurd (false≢true e)
+
+-- a row whose numbers are all above 0
+abbrev pub positive : List Refusal → Bool
+positive [] = true
+positive (r ∷ rest) = ltb 0 (r .number) && positive rest
+
+-- and passes lets what stands behind it decide
+pub first-passed : (xs ys : List Refusal) → positive xs ≡ true → first xs ≡ 0 → first (xs ++ ys) ≡ first ys
+unfolding first
+first-passed [] ys h e = refl
+first-passed (r ∷ xs) ys h e =
+    go (r .holds) (and-true (ltb 0 (r .number)) (positive xs) h) e (first-passed xs ys)
+  where
+    go : (t : Bool) → (ltb 0 (r .number) ≡ true) × (positive xs ≡ true) → cond t (r .number) (first xs) ≡ 0
+        → (positive xs ≡ true → first xs ≡ 0 → first (xs ++ ys) ≡ first ys)
+        → cond t (r .number) (first (xs ++ ys)) ≡ first ys
+    go true h e rest = absurd (omega (arith, ltb-true 0 (r .number) (h .0)))
+    go false h e rest = rest (h .1) e
 
 or-false : (x y : Bool) → x ≡ false → y ≡ false → x || y ≡ false
 or-false true y e f = e
@@ -188,16 +221,10 @@ module _ (v : View) (ok : PlanOk (v .plan)) (long : v .short ≡ false) where
   step-recovering u n e h l =
       device-past _ (rw e (job-recovering (v .plan) u n h l)) ∙ first-skip 5 _ [] (rw e) ∙ first-none
 
--- past a plan, and past a device, that is not refused
+-- past a plan that is not refused
 pub plan-passed : (p : Plan) (rest : List Refusal) → startNumber p ≡ 0 → first (planRow p ++ rest) ≡ first rest
-plan-passed p rest e =
-    let ok = start-says p e in
-    first-skip 1 _ _ (ok .count) ∙ first-skip 2 _ _ (ok .widths)
-
-pub device-passed : (v : View) (rest : List Refusal) → first (deviceRow v) ≡ 0 → first (deviceRow v ++ rest) ≡ first rest
-device-passed v rest e =
-    let h = past v [] e in
-    device-past v (h .plan) (h .long) rest (h .job)
+unfolding startNumber
+plan-passed p rest e = first-passed (planRow p) rest refl e
 
 -- ---- two views that no call tells apart: begin looks at the marker of a unit that the plan has
 pub record Alike (v v′ : View) : Type 0 where

@@ -49,9 +49,11 @@ abbrev pub asFormatted : Device → Device
 asFormatted d = record { plan = d .plan; payload = zeroPayload; phase = Ready }
 
 -- "the payload goes into the device, zeros after it; phase Writing, 0 made"
+abbrev pub padded : List ℕ → List ℕ
+padded payload = payload ++ replicate (256 - length payload) 0
+
 abbrev pub asBegun : ℕ → List ℕ → Device → Device
-asBegun u payload d =
-    record { plan = d .plan; payload = payload ++ replicate (256 - length payload) 0; phase = Writing u 0 }
+asBegun u held d = record { plan = d .plan; payload = held; phase = Writing u 0 }
 
 -- "The payload stays."
 abbrev pub asStepped : Phase → Device → Device
@@ -72,14 +74,18 @@ jobOf Ready = ready
 jobOf (Writing u made) = writing u made
 jobOf (Recovering u made d) = recovering u made
 
-abbrev pub view : Device → List ℕ → View
-view d image =
+-- "3 image too short (all calls with an image)"
+abbrev pub viewOf : Plan → Phase → List ℕ → View
+viewOf p phase image =
     record {
-      plan = d .plan;
-      short = ltb (length image) (total (d .plan));
-      job = jobOf (d .phase);
-      marker = λ u. get (d .plan) image u marker;
+      plan = p;
+      short = ltb (length image) (total p);
+      job = jobOf phase;
+      marker = λ u. get p image u marker;
     }
+
+abbrev pub view : Device → List ℕ → View
+view d image = viewOf (d .plan) (d .phase) image
 
 -- "A refusal returns the device it got and changes no lent byte."
 abbrev pub unlessRefused : ℕ → Device → List ℕ → Outcome → Outcome
@@ -136,7 +142,7 @@ format d image =
 -- "stores nothing; the payload goes into the device"
 unfoldable pub begin : Device → List ℕ → ℕ → List ℕ → Outcome
 begin d image u payload =
-    unlessRefused (beginNumber (view d image) u payload) d image (outcome 0 (asBegun u payload d) image)
+    unlessRefused (beginNumber (view d image) u payload) d image (outcome 0 (asBegun u (padded payload) d) image)
 
 -- "makes the next store and adds 1"
 unfoldable pub step : Device → List ℕ → Outcome

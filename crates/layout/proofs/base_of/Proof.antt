@@ -1,3 +1,4 @@
+-- `layout::base_of` meets its contract. The loop's invariant: the sum is where unit i begins.
 use borrow.Author.Needs.{needs}
 use native.Mathlib.Omega.{arith}
 use mathlib.Core.Path.{_≡_, sym, ap, _∙_}
@@ -6,10 +7,6 @@ use Rattle.model.specs.Layout.{base}
 use Rattle.layout.proofs.Laws.{base-more, base-none}
 use Rattle.layout.proofs.base_of.Statement.{statement}
 use Rattle.layout.proofs.base_of.Tie as tie
-use Rattle.layout.proofs.base_of.Reads as reads
-use Rattle.layout.proofs.base_of.Lts as lts
-use Rattle.layout.proofs.unit_length.Reads as unit-length-reads
-use Rattle.layout.proofs.width_of.Reads as width-of-reads
 
 abbrev Inv-loop : tie.InvT-loop
 Inv-loop plan unit sum₀ i₀ sum i = (i ≤ unit) × (sum ≡ base plan i) × (sum ≤ i * 131071)
@@ -17,36 +14,28 @@ Inv-loop plan unit sum₀ i₀ sum i = (i ≤ unit) × (sum ≡ base plan i) × 
 abbrev μ-loop : tie.MeasureT-loop
 μ-loop plan unit sum₀ i₀ sum i = unit - i
 
--- src/lib.rt:35:5
 loop-holds : tie.Need-loop-holds Inv-loop μ-loop
 loop-holds c = (omega arith, sym (base-none (c .args .plan)), omega arith)
 
--- src/lib.rt:36:33
 width-of-requires : tie.Need-width-of-requires Inv-loop μ-loop
 width-of-requires c κs = search needs
 
--- src/lib.rt:36:21
 unit-length-requires : tie.Need-unit-length-requires Inv-loop μ-loop
 unit-length-requires c κs = search needs
 
--- src/lib.rt:36:15
 add-sum : tie.Need-add-sum Inv-loop μ-loop
 add-sum c = search needs
 
--- src/lib.rt:37:13
 add-i : tie.Need-add-i Inv-loop μ-loop
 add-i c = search needs
 
--- src/lib.rt:35:5
 loop-less : tie.Need-loop-less Inv-loop μ-loop
 loop-less c = search needs
 
--- src/lib.rt:35:5
 loop-again : tie.Need-loop-again Inv-loop μ-loop
 loop-again c = let i = c .before .before .before .loop .i in
     omega (arith, base-more (c .before .before .before .before .args .plan) i, c .unit-length .ensures .0, c .unit-length .ensures .1, c .before .width-of .ensures)
 
--- src/lib.rt:30:1
 returns : tie.Need-returns Inv-loop μ-loop
 returns c = (c .before .loop .inv .1 ∙ ap (base (c .before .before .args .plan)) (omega arith), omega arith)
 

@@ -1,115 +1,85 @@
-use native.Mathlib.Omega.{arith}
-use mathlib.Core.Path.{_≡_, refl, sym, ap, _∙_}
-use mathlib.Core.List.{[]}
-use Prim.Native.Nat.{ℕ, _<_}
-use borrow.Author.Tests.{lt-ltb, le-ltb}
-use Rattle.model.specs.Layout.{base, width}
-use Rattle.model.specs.Refusals.{first, badJob, startNumber}
-use Rattle.model.proofs.RefusalLaws.{first-refused, first-stop, first-skip, first-none, plan-passed}
-use Rattle.layout.proofs.Laws.{before-job}
+-- `layout::device_number` meets its contract: the plan's row first, then 3, then 4 by the phase.
+use mathlib.Core.Path.{sym, _∙_}
+use borrow.Author.Tests.{lt-ltb}
 use borrow.Author.Needs.{needs}
+use Rattle.model.specs.Refusals.{first, badJob, startNumber}
+use Rattle.model.proofs.RefusalLaws.{first-refused, first-stop, plan-passed}
+use Rattle.layout.proofs.Laws.{before-job}
 use Rattle.layout.proofs.device_number.Statement.{statement}
 use Rattle.layout.proofs.device_number.Tie as tie
-use Rattle.layout.proofs.device_number.Reads as reads
-use Rattle.layout.proofs.device_number.Lts as lts
-use Rattle.layout.proofs.base_of.Reads as base-of-reads
-use Rattle.layout.proofs.job_number.Reads as job-number-reads
-use Rattle.layout.proofs.plan_number.Reads as plan-number-reads
-use Rattle.layout.proofs.width_of.Reads as width-of-reads
 
--- src/lib.rt:85:9
 plan-number-requires : tie.Need-plan-number-requires
 plan-number-requires c κs = search needs
 
--- src/lib.rt:87:9
 returns : tie.Need-returns
 unfolding startNumber
 returns c = c .before .plan-number .ensures ∙ sym (first-refused _ _ (λ e. c .if1 .taken (c .before .plan-number .ensures ∙ e)))
 
--- src/lib.rt:89:17
 base-of-requires : tie.Need-base-of-requires
 base-of-requires c κs = search needs
 
--- src/lib.rt:90:9
 returns-2 : tie.Need-returns-2
 returns-2 c = let a = c .before .before .before .before .args in
     sym (plan-passed (a .plan) _ (sym (c .before .before .before .plan-number .ensures) ∙ c .before .before .if1 .left)
     ∙ first-stop 3 _ _ (lt-ltb (a .length) _ (rw (c .before .base-of .ensures .0) at (c .if2 .taken))))
 
--- src/lib.rt:93:24
 enum-told : tie.Need-enum-told
 enum-told c = search needs
 
--- src/lib.rt:94:25
 enum-told-2 : tie.Need-enum-told-2
 enum-told-2 c = search needs
 
--- src/lib.rt:95:26
 enum-known-phase : tie.Need-enum-known-phase
 enum-known-phase c = search needs
 
--- src/lib.rt:96:25
 width-of-requires : tie.Need-width-of-requires
 width-of-requires c κs = search needs
 
--- src/lib.rt:96:25
 cast-width : tie.Need-cast-width
 cast-width c = search needs
 
--- src/lib.rt:97:42
 mul-job-number : tie.Need-mul-job-number
 mul-job-number c = search needs
 
--- src/lib.rt:97:42
 add-job-number : tie.Need-add-job-number
 add-job-number c = search needs
 
--- src/lib.rt:97:13
 job-number-requires : tie.Need-job-number-requires
 job-number-requires c κs = search needs
 
--- src/lib.rt:100:13
 enum-known-phase-2 : tie.Need-enum-known-phase-2
 enum-known-phase-2 c = search needs
 
--- src/lib.rt:104:25
 width-of-requires-2 : tie.Need-width-of-requires-2
 width-of-requires-2 c κs = search needs
 
--- src/lib.rt:104:25
 cast-width-2 : tie.Need-cast-width-2
 cast-width-2 c = search needs
 
--- src/lib.rt:105:42
 add-job-number-2 : tie.Need-add-job-number-2
 add-job-number-2 c = search needs
 
--- src/lib.rt:105:13
 job-number-requires-2 : tie.Need-job-number-requires-2
 job-number-requires-2 c κs = search needs
 
--- src/lib.rt:82:1
 returns-3 : tie.Need-returns-3
 unfolding badJob first
 returns-3 c = let a = c .before .before .before .before .before .before .args in
     sym (before-job (a .plan) (a .phase) (a .length) _ _ (c .before .before .before .before .before .plan-number .ensures) (c .before .before .before .before .if1 .left) (c .before .before .before .base-of .ensures .0) (c .before .before .if2 .left)
     ∙ rw (c .enum-told .given .1))
 
--- src/lib.rt:82:1
 returns-4 : tie.Need-returns-4
 unfolding badJob first
 returns-4 c = let a = c .before .before .before .before .before .before .args in
     sym (before-job (a .plan) (a .phase) (a .length) _ _ (c .before .before .before .before .before .plan-number .ensures) (c .before .before .before .before .if1 .left) (c .before .before .before .base-of .ensures .0) (c .before .before .if2 .left)
     ∙ rw (c .enum-told2 .given .1))
 
--- src/lib.rt:82:1
 returns-5 : tie.Need-returns-5
 unfolding badJob
 returns-5 c = let a = c .before .before .before .before .before .before .before .before .before .args in
     c .job-number .ensures ∙ sym (before-job (a .plan) (a .phase) (a .length) _ _ (c .before .before .before .before .before .before .before .before .plan-number .ensures) (c .before .before .before .before .before .before .before .if1 .left) (c .before .before .before .before .before .before .base-of .ensures .0) (c .before .before .before .before .before .if2 .left)
     ∙ rw (c .before .before .before .phase .given .1, ← c .before .width-of .ensures))
 
--- src/lib.rt:82:1
 returns-6 : tie.Need-returns-6
 unfolding badJob
 returns-6 c = let a = c .before .before .before .before .before .before .before .before .before .args in

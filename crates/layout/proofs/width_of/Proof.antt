@@ -1,25 +1,20 @@
+-- `layout::width_of` meets its contract: past the eighth there is no width in the list.
 use native.Mathlib.Omega.{arith}
 use lib.ListN.{List·getD-eq-default, length}
 use mathlib.Core.Path.{_≡_, sym}
 use borrow.Author.Needs.{needs}
 use Rattle.layout.proofs.width_of.Statement.{statement}
 use Rattle.layout.proofs.width_of.Tie as tie
-use Rattle.layout.proofs.width_of.Reads as reads
-use Rattle.layout.proofs.width_of.Lts as lts
 
--- src/lib.rt:27:17
 mul-result : tie.Need-mul-result
 mul-result c = search needs
 
--- src/lib.rt:27:17
 array-read-result : tie.Need-array-read-result
 array-read-result c = search needs
 
--- src/lib.rt:22:1
 returns : tie.Need-returns
 returns c = search needs
 
--- src/lib.rt:22:1
 returns-2 : tie.Need-returns-2
 returns-2 c = let l : length (c .before .before .args .plan .widths) ≡ 8 = search needs in
     sym (List·getD-eq-default (c .before .before .args .plan .widths) 0 (omega arith))

@@ -1,16 +1,14 @@
+-- `mirror::clear` meets its contract. The loop's invariant: the first i bytes are zeros.
 use borrow.Author.Needs.{needs}
 use native.Mathlib.Omega.{arith}
-use lib.ListN.{length-set}
+use lib.ListN.{length-set, length, take, replicate}
 use lib.Seq.{take-all}
 use denote.Ref.{now}
-use Rattle.mirror.proofs.Format.{zero-more}
 use Prim.Native.Nat.{ℕ, _≤_, _-_}
 use mathlib.Core.Path.{_≡_, refl, sym, ap, _∙_}
-use lib.ListN.{length, take, replicate}
+use Rattle.mirror.proofs.Format.{zero-more}
 use Rattle.mirror.proofs.clear.Statement.{statement}
 use Rattle.mirror.proofs.clear.Tie as tie
-use Rattle.mirror.proofs.clear.Reads as reads
-use Rattle.mirror.proofs.clear.Lts as lts
 
 abbrev Inv-loop : tie.InvT-loop
 Inv-loop span₀ i₀ span i = (length span ≡ length span₀) × (i ≤ length span) × (take i span ≡ replicate i 0)
@@ -18,33 +16,26 @@ Inv-loop span₀ i₀ span i = (length span ≡ length span₀) × (i ≤ length
 abbrev μ-loop : tie.MeasureT-loop
 μ-loop span₀ i₀ span i = length span₀ - i
 
--- src/lib.rt:254:5
 loop-holds : tie.Need-loop-holds Inv-loop μ-loop
 loop-holds c = (refl, omega arith, refl)
 
--- src/lib.rt:255:9
 slice-write-span : tie.Need-slice-write-span Inv-loop μ-loop
 slice-write-span c = search needs
 
--- src/lib.rt:256:13
 add-i : tie.Need-add-i Inv-loop μ-loop
 add-i c = search needs
 
--- src/lib.rt:254:5
 loop-less : tie.Need-loop-less Inv-loop μ-loop
 loop-less c = search needs
 
--- src/lib.rt:254:5
 loop-again : tie.Need-loop-again Inv-loop μ-loop
 loop-again c = let xs = c .before .loop .span in
     let i = c .before .loop .i in
     (length-set xs i 0 ∙ c .before .loop .inv .0, simp length-set (omega arith), zero-more xs i (c .loop-test .taken) (c .before .loop .inv .2))
 
--- src/lib.rt:250:1
 same-length : tie.Need-same-length Inv-loop μ-loop
 same-length c = search needs
 
--- src/lib.rt:250:1
 returns : tie.Need-returns Inv-loop μ-loop
 returns c = let xs = c .before .loop .span in
     let i = c .before .loop .i in

@@ -1,49 +1,37 @@
-use native.Mathlib.Omega.{arith}
-use mathlib.Core.Path.{refl, sym, ap, _∙_}
-use Rattle.model.specs.Marker.{way, direction}
+-- `mirror::direction_of` meets its contract, by the marker's meaning.
+use mathlib.Core.Path.{sym, ap, _∙_}
 use borrow.Author.Needs.{needs}
+use Rattle.model.specs.Marker.{way, direction}
 use Rattle.mirror.proofs.direction_of.Statement.{statement}
 use Rattle.mirror.proofs.direction_of.Tie as tie
-use Rattle.mirror.proofs.direction_of.Reads as reads
-use Rattle.mirror.proofs.direction_of.Lts as lts
-use Rattle.model.proofs.Marker.classify.Reads as classify-reads
 
--- src/lib.rt:178:9
 classify-requires : tie.Need-classify-requires
 classify-requires c κs = search needs
 
--- src/lib.rt:180:26
 enum-told : tie.Need-enum-told
 enum-told c = search needs
 
--- src/lib.rt:181:31
 enum-told-2 : tie.Need-enum-told-2
 enum-told-2 c = search needs
 
--- src/lib.rt:182:31
 enum-told-3 : tie.Need-enum-told-3
 enum-told-3 c = search needs
 
--- src/lib.rt:183:30
 enum-told-4 : tie.Need-enum-told-4
 enum-told-4 c = search needs
 
--- src/lib.rt:175:1
 returns : tie.Need-returns
 unfolding direction
 returns c = sym (ap way (sym (c .before .before .classify .ensures) ∙ c .enum-told .given .1))
 
--- src/lib.rt:175:1
 returns-2 : tie.Need-returns-2
 unfolding direction
 returns-2 c = sym (ap way (sym (c .before .before .classify .ensures) ∙ c .enum-told2 .given .1))
 
--- src/lib.rt:175:1
 returns-3 : tie.Need-returns-3
 unfolding direction
 returns-3 c = sym (ap way (sym (c .before .before .classify .ensures) ∙ c .enum-told3 .given .1))
 
--- src/lib.rt:175:1
 returns-4 : tie.Need-returns-4
 unfolding direction
 returns-4 c = sym (ap way (sym (c .before .before .classify .ensures) ∙ c .enum-told4 .given .1))

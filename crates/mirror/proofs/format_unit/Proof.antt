@@ -1,31 +1,24 @@
-use native.Mathlib.Omega.{arith}
+-- `mirror::format_unit` meets its contract.
 use mathlib.Core.Path.{_∙_, ap}
 use mathlib.Core.List.{List}
 use Prim.Native.Nat.{ℕ}
 use lib.ListN.{set, length}
 use denote.Ref.{now}
+use borrow.Author.Needs.{needs}
 use Rattle.model.specs.Marker.{OK}
 use Rattle.mirror.proofs.Format.{marker-first}
-use borrow.Author.Needs.{needs}
 use Rattle.mirror.proofs.format_unit.Statement.{statement}
 use Rattle.mirror.proofs.format_unit.Tie as tie
-use Rattle.mirror.proofs.format_unit.Reads as reads
-use Rattle.mirror.proofs.format_unit.Lts as lts
-use Rattle.mirror.proofs.clear.Reads as clear-reads
 
--- src/lib.rt:265:5
 clear-requires : tie.Need-clear-requires
 clear-requires c κs = search needs
 
--- src/lib.rt:266:5
 slice-write-span : tie.Need-slice-write-span
 slice-write-span c = search needs
 
--- src/lib.rt:261:1
 same-length : tie.Need-same-length
 same-length c = search needs
 
--- src/lib.rt:261:1
 returns : tie.Need-returns
 returns c = ap (λ (l : List ℕ). set l 0 OK) (c .before .before .clear .ensures) ∙ marker-first (length (now (c .before .before .before .before .before .args .span))) (c .before .before .before .before .before .pre)
 

@@ -1,22 +1,18 @@
+-- `mirror::format_units` meets its contract. The loop's invariant: the units so far are fresh, the rest is as it was.
 use borrow.Author.Needs.{needs}
 use native.Mathlib.Omega.{arith}
 use denote.Ref.{now}
+use Prim.Native.Nat.{_+_, _-_, _≤_}
+use mathlib.Core.Path.{_≡_, refl, sym, ap, ap₂, _∙_}
+use mathlib.Core.List.{_++_}
+use lib.ListN.{length, drop}
 use Rattle.model.proofs.LayoutLaws.{base-bound}
 use Rattle.layout.proofs.Laws.{base-more, base-none}
 use Rattle.mirror.proofs.Format.{fresh-more}
-use Prim.Native.Nat.{ℕ, _+_, _-_, _≤_, _<_}
-use mathlib.Core.Path.{_≡_, refl, sym, ap, ap₂, _∙_}
-use mathlib.Core.List.{List, _++_}
-use lib.ListN.{length, drop}
 use Rattle.model.specs.Layout.{fresh, formatted}
 use Rattle.model.specs.Layout as layout
 use Rattle.mirror.proofs.format_units.Statement.{statement}
 use Rattle.mirror.proofs.format_units.Tie as tie
-use Rattle.mirror.proofs.format_units.Reads as reads
-use Rattle.mirror.proofs.format_units.Lts as lts
-use Rattle.layout.proofs.unit_length.Reads as unit-length-reads
-use Rattle.layout.proofs.width_of.Reads as width-of-reads
-use Rattle.mirror.proofs.format_unit.Reads as format-unit-reads
 
 abbrev Inv-loop : tie.InvT-loop
 Inv-loop plan image₀ count unit₀ base₀ image unit base = (unit ≤ count) × (base ≡ layout.base plan unit) × (length image ≡ length image₀) × (image ≡ fresh plan unit ++ drop base image₀)
@@ -24,64 +20,54 @@ Inv-loop plan image₀ count unit₀ base₀ image unit base = (unit ≤ count) 
 abbrev μ-loop : tie.MeasureT-loop
 μ-loop plan image₀ count unit₀ base₀ image unit base = count - unit
 
--- src/lib.rt:277:5
 loop-holds : tie.Need-loop-holds Inv-loop μ-loop
 unfolding fresh
 loop-holds c = (omega arith, sym (base-none (c .before .args .plan)), refl, refl)
 
--- src/lib.rt:278:38
 width-of-requires : tie.Need-width-of-requires Inv-loop μ-loop
 width-of-requires c κs = search needs
 
--- src/lib.rt:278:26
 unit-length-requires : tie.Need-unit-length-requires Inv-loop μ-loop
 unit-length-requires c κs = search needs
 
--- src/lib.rt:278:19
 add-end : tie.Need-add-end Inv-loop μ-loop
 add-end c = let p = c .before .before .before .before .before .args .plan in
     omega (arith, base-bound p (c .before .before .before .before .before .pre .0) (c .before .before .before .loop .unit) (p .count) (c .before .before .loop-test .taken), c .before .before .before .before .before .pre .1, c .before .before .before .loop .inv .1, c .unit-length .ensures .0, c .before .width-of .ensures)
 
--- src/lib.rt:279:21
 sub-format-unit : tie.Need-sub-format-unit Inv-loop μ-loop
 sub-format-unit c = search needs
 
--- src/lib.rt:279:21
 part-format-unit-start : tie.Need-part-format-unit-start Inv-loop μ-loop
 part-format-unit-start c = search needs
 
--- src/lib.rt:279:21
 part-format-unit-end : tie.Need-part-format-unit-end Inv-loop μ-loop
 part-format-unit-end c = let p = c .before .before .before .before .before .args .plan in
     omega (arith, base-bound p (c .before .before .before .before .before .pre .0) (c .before .before .before .loop .unit) (p .count) (c .before .before .loop-test .taken), c .before .before .before .before .before .pre .1, c .before .before .before .loop .inv .1, c .before .before .before .loop .inv .2, c .unit-length .ensures .0, c .before .width-of .ensures)
 
--- src/lib.rt:279:9
 format-unit-requires : tie.Need-format-unit-requires Inv-loop μ-loop
 format-unit-requires c κs = search needs
 
--- src/lib.rt:281:16
 add-unit : tie.Need-add-unit Inv-loop μ-loop
 add-unit c = search needs
 
--- src/lib.rt:277:5
 loop-less : tie.Need-loop-less Inv-loop μ-loop
 loop-less c = search needs
 
--- src/lib.rt:277:5
 loop-again : tie.Need-loop-again Inv-loop μ-loop
 loop-again c = let a = c .before .before .before .before .before .before .before .before .before .args in
     let r = c .before .before .before .before .before .before .before in
     let p = a .plan in
     let bound = base-bound p (c .before .before .before .before .before .before .before .before .before .pre .0) (r .loop .unit) (p .count) (c .before .before .before .before .before .before .loop-test .taken) in
-    let length-is = c .before .before .before .before .unit-length .ensures .0 ∙ ap layout.unitLength (c .before .before .before .before .before .width-of .ensures) in
-    (omega arith, rw (base-more p (r .loop .unit)) (ap₂ _+_ (r .loop .inv .1) length-is), search needs,
-    fresh-more p (c .before .before .before .before .before .before .before .before .before .pre .0) (r .loop .unit) (r .loop .base) _ (now (a .image)) (r .loop .image) (c .before .before .format-unit .last .0) (r .loop .inv .1) length-is (omega (arith, c .before .before .before .before .before .before .before .before .before .pre .1)) (r .loop .inv .3) (c .before .before .format-unit .ensures))
+    let length-is = c .before .before .before .before .unit-length .ensures .0 ∙ ap layout.unitLength (c .before .before .before .before .before .width-of .ensures) in (
+      omega arith,
+      rw (base-more p (r .loop .unit)) (ap₂ _+_ (r .loop .inv .1) length-is),
+      search needs,
+      fresh-more p (c .before .before .before .before .before .before .before .before .before .pre .0) (r .loop .unit) (r .loop .base) _ (now (a .image)) (r .loop .image) (c .before .before .format-unit .last .0) (r .loop .inv .1) length-is (omega (arith, c .before .before .before .before .before .before .before .before .before .pre .1)) (r .loop .inv .3) (c .before .before .format-unit .ensures),
+    )
 
--- src/lib.rt:270:1
 same-length : tie.Need-same-length Inv-loop μ-loop
 same-length c = search needs
 
--- src/lib.rt:270:1
 returns : tie.Need-returns Inv-loop μ-loop
 unfolding formatted
 returns c = let e : c .before .loop .unit ≡ c .before .before .before .args .plan .count = omega arith in

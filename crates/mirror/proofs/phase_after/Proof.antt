@@ -1,111 +1,89 @@
+-- `mirror::phase_after` meets its contract, by the phase and whether the store was the job's last.
 use native.Mathlib.Omega.{arith}
-use mathlib.Core.Path.{_≡_, refl, sym, ap, _∙_}
+use mathlib.Core.Path.{sym, ap, _∙_}
 use denote.Ref.{now}
+use borrow.Author.Needs.{needs}
 use Rattle.model.specs.Calls.{phaseAfter}
 use Rattle.mirror.proofs.Laws.{room, work-writing, work-recovering, write-last, write-more, cleanup-last, cleanup-more}
-use borrow.Author.Needs.{needs}
 use Rattle.mirror.proofs.phase_after.Statement.{statement}
 use Rattle.mirror.proofs.phase_after.Tie as tie
-use Rattle.mirror.proofs.phase_after.Reads as reads
-use Rattle.mirror.proofs.phase_after.Lts as lts
-use Rattle.layout.proofs.width_of.Reads as width-of-reads
-use Rattle.mirror.proofs.cleanup_from.Reads as cleanup-from-reads
 
--- src/lib.rt:217:24
 enum-told : tie.Need-enum-told
 enum-told c = search needs
 
--- src/lib.rt:218:25
 enum-told-2 : tie.Need-enum-told-2
 enum-told-2 c = search needs
 
--- src/lib.rt:219:26
 enum-known-phase : tie.Need-enum-known-phase
 enum-known-phase c = search needs
 
--- src/lib.rt:220:17
 width-of-requires : tie.Need-width-of-requires
 width-of-requires c κs = search needs
 
--- src/lib.rt:221:24
 add-next : tie.Need-add-next
 add-next c = let a = c .before .before .before .before .before .args in
     let w = work-writing (a .plan) (a .phase) (now (a .image)) _ _ (c .before .before .before .before .before .pre) (c .before .before .phase .given .1) in
     omega (arith, w .made, w .narrow)
 
--- src/lib.rt:222:24
 mul-if1 : tie.Need-mul-if1
 mul-if1 c = let a = c .before .before .before .before .before .args in
     let w = work-writing (a .plan) (a .phase) (now (a .image)) _ _ (c .before .before .before .before .before .pre) (c .before .before .phase .given .1) in
     omega (arith, w .narrow, c .width-of .ensures)
 
--- src/lib.rt:222:24
 add-if1 : tie.Need-add-if1
 add-if1 c = let a = c .before .before .before .before .before .args in
     let w = work-writing (a .plan) (a .phase) (now (a .image)) _ _ (c .before .before .before .before .before .pre) (c .before .before .phase .given .1) in
     omega (arith, w .narrow, c .width-of .ensures)
 
--- src/lib.rt:223:17
 returns : tie.Need-returns
 returns c = let a = c .before .before .before .before .before .before .args in
     sym (ap (phaseAfter (a .plan) (now (a .image))) (c .before .before .before .phase .given .1)
     ∙ write-last (a .plan) (now (a .image)) _ _ _ (c .before .width-of .ensures) (c .if1 .taken))
 
--- src/lib.rt:231:13
 enum-known-phase-2 : tie.Need-enum-known-phase-2
 enum-known-phase-2 c = search needs
 
--- src/lib.rt:235:17
 width-of-requires-2 : tie.Need-width-of-requires-2
 width-of-requires-2 c κs = search needs
 
--- src/lib.rt:236:24
 add-next-2 : tie.Need-add-next-2
 add-next-2 c = let a = c .before .before .before .before .before .args in
     let w = work-recovering (a .plan) (a .phase) (now (a .image)) _ _ _ (c .before .before .before .before .before .pre) (c .before .before .phase2 .given .1) in
     omega (arith, w .made, w .narrow)
 
--- src/lib.rt:237:24
 add-if2 : tie.Need-add-if2
 add-if2 c = let a = c .before .before .before .before .before .args in
     let w = work-recovering (a .plan) (a .phase) (now (a .image)) _ _ _ (c .before .before .before .before .before .pre) (c .before .before .phase2 .given .1) in
     omega (arith, w .narrow, c .width-of2 .ensures)
 
--- src/lib.rt:238:50
 add-cleanup-from : tie.Need-add-cleanup-from
 add-cleanup-from c = let a = c .before .before .before .before .before .before .args in
     let w = work-recovering (a .plan) (a .phase) (now (a .image)) _ _ _ (c .before .before .before .before .before .before .pre) (c .before .before .before .phase2 .given .1) in
     search needs
 
--- src/lib.rt:238:17
 cleanup-from-requires : tie.Need-cleanup-from-requires
 cleanup-from-requires c κs = let a = c .before .before .before .before .before .before .args in
     let r = room (a .plan) (a .phase) (now (a .image)) (c .before .before .before .before .before .before .pre) in
     (r .ok, r .long)
 
--- src/lib.rt:238:17
 returns-2 : tie.Need-returns-2
 returns-2 c = let a = c .before .before .before .before .before .before .before .args in
     c .cleanup-from .ensures ∙ sym (ap (phaseAfter (a .plan) (now (a .image))) (c .before .before .before .before .phase2 .given .1)
     ∙ cleanup-last (a .plan) (now (a .image)) _ _ _ (c .before .before .width-of2 .ensures) _ (c .before .if2 .taken))
 
--- src/lib.rt:212:1
 returns-3 : tie.Need-returns-3
 unfolding phaseAfter
 returns-3 c = rw (c .enum-told .given .1)
 
--- src/lib.rt:212:1
 returns-4 : tie.Need-returns-4
 unfolding phaseAfter
 returns-4 c = rw (c .enum-told2 .given .1)
 
--- src/lib.rt:212:1
 returns-5 : tie.Need-returns-5
 returns-5 c = let a = c .before .before .before .before .before .before .args in
     sym (ap (phaseAfter (a .plan) (now (a .image))) (c .before .before .before .phase .given .1)
     ∙ write-more (a .plan) (now (a .image)) _ _ _ (c .before .width-of .ensures) (c .if1 .left))
 
--- src/lib.rt:212:1
 returns-6 : tie.Need-returns-6
 returns-6 c = let a = c .before .before .before .before .before .before .args in
     sym (ap (phaseAfter (a .plan) (now (a .image))) (c .before .before .before .phase2 .given .1)

@@ -1,12 +1,9 @@
+-- `mirror::torn_marker` meets its contract: two masks are the bit rule.
 use borrow.Author.Needs.{needs}
-use native.Mathlib.Omega.{arith}
 use Rattle.mirror.proofs.Torn.{torn-masks}
 use Rattle.mirror.proofs.torn_marker.Statement.{statement}
 use Rattle.mirror.proofs.torn_marker.Tie as tie
-use Rattle.mirror.proofs.torn_marker.Reads as reads
-use Rattle.mirror.proofs.torn_marker.Lts as lts
 
--- src/lib.rt:158:1
 returns : tie.Need-returns
 returns c = torn-masks (c .args .old) (c .args .new) (c .args .m) (search needs)
 

@@ -1,0 +1,21 @@
+-- The library's structs as the model's records, field by field, and what every call's contract says with them.
+use Prim.Native.Nat.{ℕ}
+use mathlib.Core.Path.{_≡_}
+use mathlib.Core.List.{List}
+use Rattle.store.specs.declared.Device.{Device}
+use Rattle.store.specs.declared.Answer.{Answer}
+use Rattle.model.specs.Calls as model
+
+abbrev pub modelled : Device → model.Device
+modelled d = record { plan = d .plan; payload = d .payload; phase = d .phase }
+
+-- The answer r, with the image that the call left, is the outcome o: number, next device, every byte.
+pub record Gives (r : Answer) (left : List ℕ) (o : model.Outcome) : Type 0 where
+  pub number : r .number ≡ o .number
+  pub device : modelled (r .device) ≡ o .device
+  pub image : left ≡ o .image
+
+-- start has no image
+pub record Starts (r : Answer) (a : model.Answer) : Type 0 where
+  pub number : r .number ≡ a .number
+  pub device : modelled (r .device) ≡ a .device

@@ -1,0 +1,353 @@
+// The save store: the device and its calls. A call takes the device whole and hands back its number, which is 0 or the lowest
+// refusal of document 01 that applies, and the next device. A refused call gives the device back as it came and changes no byte.
+// Every contract is an equation with the definitions of crates/model/specs/Calls.antt.
+ghost use mathlib.Core.Path.{_≡_};
+ghost use mathlib.Core.List.{[], _∷_, _++_};
+ghost use mathlib.Core.Bool.{not, _||_};
+ghost use Prim.Native.Nat.{_≤_};
+ghost use lib.ListN.{length};
+ghost use Rattle.model.specs.Refusals.{isCold, isReady, _when_, first, deviceRow, readNumber, beginNumber};
+ghost use Rattle.model.specs.Calls.{jobOf, viewOf, view, padded, start, format, begin, step, wake, cut, read, numberIn, unitIn, Inspects};
+ghost use Rattle.layout.specs.Seen.{seen};
+ghost use Rattle.store.specs.Modelled.{modelled, Gives, Starts};
+use layout::base_of;
+use layout::device_number;
+use layout::plan_number;
+use layout::width_of;
+use mirror::cleanup_from;
+use mirror::format_units;
+use mirror::make_store;
+use mirror::phase_after;
+use mirror::tear_store;
+use model::Inspection;
+use model::Marker;
+use model::Phase;
+use model::Plan;
+
+pub struct Device {
+    pub plan: Plan,
+    pub payload: [u8; 256],
+    pub phase: Phase,
+}
+
+pub struct Answer {
+    pub number: u16,
+    pub device: Device,
+}
+
+// Wrong phase for format and wake.
+fn not_cold(phase: Phase) -> bool
+    ensures { λ r. ⌜ r ≡ not (isCold (jobOf phase)) ⌝ }
+{
+    match phase {
+        Phase::Cold => false,
+        Phase::Ready => true,
+        Phase::Writing { unit: _, made: _ } => true,
+        Phase::Recovering {
+            unit: _,
+            made: _,
+            direction: _,
+        } => true,
+    }
+}
+
+// Wrong phase for begin and read.
+fn not_ready(phase: Phase) -> bool
+    ensures { λ r. ⌜ r ≡ not (isReady (jobOf phase)) ⌝ }
+{
+    match phase {
+        Phase::Cold => true,
+        Phase::Ready => false,
+        Phase::Writing { unit: _, made: _ } => true,
+        Phase::Recovering {
+            unit: _,
+            made: _,
+            direction: _,
+        } => true,
+    }
+}
+
+// Wrong phase for step: there is no store to make.
+fn idle(phase: Phase) -> bool
+    ensures { λ r. ⌜ r ≡ (isCold (jobOf phase) || isReady (jobOf phase)) ⌝ }
+{
+    match phase {
+        Phase::Cold => true,
+        Phase::Ready => true,
+        Phase::Writing { unit: _, made: _ } => false,
+        Phase::Recovering {
+            unit: _,
+            made: _,
+            direction: _,
+        } => false,
+    }
+}
+
+// Refusals 1 to 5.
+fn phase_number(plan: Plan, phase: Phase, length: usize, wrong: bool) -> u16
+    ensures { λ r. ⌜ r ≡ first (deviceRow (seen plan phase length) ++ (5 when wrong ∷ [])) ⌝ }
+{
+    let number = device_number(plan, phase, length);
+    if number != 0 {
+        return number;
+    }
+    if wrong { 5 } else { 0 }
+}
+
+// Refusals 1 to 8 of read.
+fn unit_number(plan: Plan, phase: Phase, image: &[u8], unit: u16) -> u16
+    ensures { λ r. ⌜ r ≡ readNumber (viewOf plan phase (now (image .entry))) unit ⌝ }
+{
+    let number = phase_number(plan, phase, image.len(), not_ready(phase));
+    if number != 0 {
+        return number;
+    }
+    if plan.count <= unit {
+        return 6;
+    }
+    let base = base_of(plan, unit);
+    if image[base] != Marker::OK {
+        return 8;
+    }
+    0
+}
+
+// Refusals 1 to 8 of begin.
+fn payload_number(plan: Plan, phase: Phase, image: &[u8], unit: u16, payload: &[u8]) -> u16
+    ensures { λ r. ⌜ r ≡ beginNumber (viewOf plan phase (now (image .entry))) unit (now (payload .entry)) ⌝ }
+{
+    let number = phase_number(plan, phase, image.len(), not_ready(phase));
+    if number != 0 {
+        return number;
+    }
+    if plan.count <= unit {
+        return 6;
+    }
+    let width = width_of(plan, unit) as usize;
+    if payload.len() != width {
+        return 7;
+    }
+    let base = base_of(plan, unit);
+    if image[base] != Marker::OK {
+        return 8;
+    }
+    0
+}
+
+// A payload as the device holds it: zeros after it.
+fn zero_filled(payload: &[u8]) -> [u8; 256]
+    requires { ⌜ length (now payload) ≤ 256 ⌝ }
+    ensures { λ r. ⌜ r ≡ padded (now (payload .entry)) ⌝ }
+{
+    let mut held = [0u8; 256];
+    let mut i: usize = 0;
+    while i < payload.len() {
+        held[i] = payload[i];
+        i = i + 1;
+    }
+    held
+}
+
+impl Device {
+    // A device for a plan: Cold, with a zero payload. Refused (1, 2): the device that is all zeros.
+    pub fn start(plan: Plan) -> Answer
+        ensures { λ r. ⌜ Starts r (start plan) ⌝ }
+    {
+        let number = plan_number(plan);
+        if number != 0 {
+            return Answer {
+                number: number,
+                device: Device {
+                    plan: Plan {
+                        count: 0,
+                        widths: [0u16; 8],
+                    },
+                    payload: [0u8; 256],
+                    phase: Phase::Cold,
+                },
+            };
+        }
+        Answer {
+            number: 0,
+            device: Device {
+                plan: plan,
+                payload: [0u8; 256],
+                phase: Phase::Cold,
+            },
+        }
+    }
+
+    // Zeros in all units, every marker OK; the device is then Ready. Refused: 1 to 5.
+    pub fn format(self, image: &mut [u8]) -> Answer
+        ensures { λ r. ⌜ Gives r (now (image .exit)) (format (modelled self) (now (image .entry))) ⌝ }
+    {
+        let plan = self.plan;
+        let phase = self.phase;
+        let number = phase_number(plan, phase, image.len(), not_cold(phase));
+        if number != 0 {
+            return Answer {
+                number: number,
+                device: self,
+            };
+        }
+        format_units(plan, &mut image[..]);
+        Answer {
+            number: 0,
+            device: Device {
+                plan: plan,
+                payload: [0u8; 256],
+                phase: Phase::Ready,
+            },
+        }
+    }
+
+    // Takes the payload of a write, whose stores the steps make. Refused: 1 to 8.
+    pub fn begin(self, image: &[u8], unit: u16, payload: &[u8]) -> Answer
+        ensures { λ r. ⌜ Gives r (now (image .entry)) (begin (modelled self) (now (image .entry)) unit (now (payload .entry))) ⌝ }
+    {
+        let plan = self.plan;
+        let phase = self.phase;
+        let number = payload_number(plan, phase, image, unit, payload);
+        if number != 0 {
+            return Answer {
+                number: number,
+                device: self,
+            };
+        }
+        let held = zero_filled(payload);
+        Answer {
+            number: 0,
+            device: Device {
+                plan: plan,
+                payload: held,
+                phase: Phase::Writing {
+                    unit: unit,
+                    made: 0,
+                },
+            },
+        }
+    }
+
+    // Makes the next store of a write or a cleanup, one byte. Refused: 1 to 5.
+    pub fn step(self, image: &mut [u8]) -> Answer
+        ensures { λ r. ⌜ Gives r (now (image .exit)) (step (modelled self) (now (image .entry))) ⌝ }
+    {
+        let plan = self.plan;
+        let phase = self.phase;
+        let number = phase_number(plan, phase, image.len(), idle(phase));
+        if number != 0 {
+            return Answer {
+                number: number,
+                device: self,
+            };
+        }
+        let payload = self.payload;
+        make_store(plan, &payload, phase, &mut image[..]);
+        let next = phase_after(plan, phase, &image[..]);
+        Answer {
+            number: 0,
+            device: Device {
+                plan: plan,
+                payload: payload,
+                phase: next,
+            },
+        }
+    }
+
+    // Begins the cleanup of the lowest unit whose marker isn't OK, or is Ready. Stores nothing. Refused: 1 to 5.
+    pub fn wake(self, image: &[u8]) -> Answer
+        ensures { λ r. ⌜ Gives r (now (image .entry)) (wake (modelled self) (now (image .entry))) ⌝ }
+    {
+        let plan = self.plan;
+        let phase = self.phase;
+        let number = phase_number(plan, phase, image.len(), not_cold(phase));
+        if number != 0 {
+            return Answer {
+                number: number,
+                device: self,
+            };
+        }
+        let payload = self.payload;
+        let next = cleanup_from(plan, image, 0);
+        Answer {
+            number: 0,
+            device: Device {
+                plan: plan,
+                payload: payload,
+                phase: next,
+            },
+        }
+    }
+
+    // The device that a power cut leaves: the image has the next store, if there is one, torn by m. Refused: 1 to 4.
+    pub fn cut(self, image: &mut [u8], m: u8) -> Answer
+        ensures { λ r. ⌜ Gives r (now (image .exit)) (cut (modelled self) (now (image .entry)) m) ⌝ }
+    {
+        let plan = self.plan;
+        let phase = self.phase;
+        let number = device_number(plan, phase, image.len());
+        if number != 0 {
+            return Answer {
+                number: number,
+                device: self,
+            };
+        }
+        let payload = self.payload;
+        tear_store(plan, &payload, phase, &mut image[..], m);
+        Answer {
+            number: 0,
+            device: Device {
+                plan: plan,
+                payload: [0u8; 256],
+                phase: Phase::Cold,
+            },
+        }
+    }
+
+    // 0, or why read is refused: 1 to 6, or 8.
+    pub fn read_number(self, image: &[u8], unit: u16) -> u16
+        ensures { λ r. ⌜ r ≡ readNumber (view (modelled self) (now (image .entry))) unit ⌝ }
+    {
+        let plan = self.plan;
+        let phase = self.phase;
+        unit_number(plan, phase, image, unit)
+    }
+
+    // Copy A of a unit, as a part of the image; an empty part when refused.
+    pub fn read(self, image: &[u8], unit: u16) -> &[u8]
+        ensures { λ r. ⌜ now r ≡ read (modelled self) (now (image .entry)) unit ⌝ }
+    {
+        let plan = self.plan;
+        let phase = self.phase;
+        let number = unit_number(plan, phase, image, unit);
+        if number != 0 {
+            return &image[..0];
+        }
+        let start = base_of(plan, unit) + 1;
+        let end = start + (width_of(plan, unit) as usize);
+        &image[start..end]
+    }
+
+    // A unit whose marker isn't OK, or that there is none. Refused: 1 to 4.
+    pub fn inspect(self, image: &[u8]) -> Inspection
+        ensures { λ r. ⌜ Inspects (modelled self) (now (image .entry)) (numberIn r) (unitIn r) ⌝ }
+    {
+        let plan = self.plan;
+        let phase = self.phase;
+        let number = device_number(plan, phase, image.len());
+        if number != 0 {
+            return Inspection::Refused(number);
+        }
+        let found = cleanup_from(plan, image, 0);
+        match found {
+            Phase::Cold => Inspection::AllOk,
+            Phase::Ready => Inspection::AllOk,
+            Phase::Writing { unit: _, made: _ } => Inspection::AllOk,
+            Phase::Recovering {
+                unit,
+                made: _,
+                direction: _,
+            } => Inspection::Suspect(unit),
+        }
+    }
+}
