@@ -7,4 +7,4 @@ pub mod LedgerLaws
 pub mod Invariant
 pub mod Keeps
 pub mod Theorem
-pub mod CasesHold
+pub mod WorkedCases

@@ -33,7 +33,7 @@ pub first-none : first [] ≡ 0
 unfolding first
 first-none = refl
 
-first-rest : (r : Refusal) (xs ys : List Refusal) → first xs ≡ first ys → first (r ∷ xs) ≡ first (r ∷ ys)
+pub first-rest : (r : Refusal) (xs ys : List Refusal) → first xs ≡ first ys → first (r ∷ xs) ≡ first (r ∷ ys)
 unfolding first
 first-rest r xs ys e = ap (λ t. cond (r .holds) (r .number) t) e
 

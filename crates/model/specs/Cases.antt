@@ -1,4 +1,4 @@
--- Document 01, 'Cases at the edges', as one table. proofs/CasesHold.antt has the theorem that the definitions give every row.
+-- Document 01, 'Cases at the edges', as one table. proofs/WorkedCases.antt has the theorem that the definitions give every row.
 use Prim.Native.Nat.{ℕ, zero, suc}
 use mathlib.Core.Path.{_≡_}
 use mathlib.Core.List.{List, [], _∷_, _++_, map}

@@ -1,6 +1,6 @@
 -- Edges that the power-cut theorem cannot see, as tables and facts: every number of every call; whole outcomes, also on images
 -- that no list from a formatted device leaves; the ledger's own entries; what inspect may say.
--- proofs/CasesHold.antt has the theorems that the definitions give every row.
+-- proofs/WorkedCases.antt has the theorems that the definitions give every row.
 use Prim.Native.Nat.{ℕ, zero, suc}
 use mathlib.Core.Path.{_≡_}
 use mathlib.Core.List.{List, [], _∷_, _++_, map}

@@ -10,17 +10,17 @@ use lib.ListN.{length, getD, take, drop, replicate}
 use borrow.Author.Tests.{eq-eqb, ne-eqb, leb-false}
 use Rattle.store.specs.declared.Device.{Device}
 use Rattle.store.specs.declared.Answer.{Answer}
-use Rattle.store.specs.Modelled.{modelled, Gives, Starts}
+use Rattle.store.specs.Modelled.{modelled, blanked, unitNumber, Gives, Starts}
 use Rattle.model.specs.declared.Plan.{Plan}
 use Rattle.model.specs.declared.Direction.{Direction}
 use Rattle.model.specs.declared.Phase.{Phase}
 use Rattle.model.specs.declared.Phase.the-variants.{Cold, Ready, Writing, Recovering}
 use Rattle.model.specs.Marker.{OK, End}
 use Rattle.model.specs.Layout.{copyA, marker, width, unitLength, base, get, copyOf}
-use Rattle.model.specs.Refusals.{isCold, isReady, _when_, Refusal, first, deviceRow, formatNumber, wakeNumber, stepNumber, cutNumber, inspectNumber, readNumber, beginNumber}
+use Rattle.model.specs.Refusals.{View, isCold, isReady, _when_, Refusal, first, deviceRow, formatNumber, wakeNumber, stepNumber, cutNumber, inspectNumber, readNumber, beginNumber}
 use Rattle.model.specs.Stores.{Store, stored}
 use Rattle.model.specs.Calls.{jobOf, viewOf, view, Outcome, unlessRefused, startAnswer, partUnlessRefused, cleanupFrom, Inspects}
-use Rattle.model.proofs.RefusalLaws.{first-front, first-refused, first-passed, first-past, past, begin-says, width-bounds}
+use Rattle.model.proofs.RefusalLaws.{first-skip, first-rest, first-front, first-refused, first-passed, first-past, past, begin-says, width-bounds}
 use Rattle.model.proofs.LayoutLaws.{base-bound, length-stored}
 use Rattle.layout.specs.Seen.{seen}
 use Rattle.mirror.specs.Placed.{Live}
@@ -37,6 +37,18 @@ pub accepted : (r : Answer) (left : List ℕ) (d : Device) (image : List ℕ) (k
     → Gives r left o → Gives r left (unlessRefused n (modelled d) image o)
 accepted r left d image k zero o e z g = g
 accepted r left d image k (suc n) o e z g = absurd (omega arith)
+
+-- ---- begin's row and read's row are one: at the unit's own width 7 does not hold
+pub begin-row : (v : View) (u : ℕ) (payload : List ℕ) → unitNumber v u (length payload) ≡ beginNumber v u payload
+unfolding beginNumber
+begin-row v u payload = refl
+
+pub read-row : (v : View) (u size : ℕ) → size ≡ width (v .plan) u → unitNumber v u size ≡ readNumber v u
+unfolding readNumber
+read-row v u size e =
+    rw (eq-eqb size (width (v .plan) u) e)
+    (first-rest _ _ _ (first-rest _ _ _ (first-rest _ _ _ (first-rest _ _ _ (first-rest _ _ _ (first-rest _ _ _
+    (first-skip 7 false _ refl)))))))
 
 -- ---- the numbers that the code comes to
 module _ (p : Plan) (phase : Phase) (image : List ℕ) where
@@ -132,18 +144,19 @@ module _ (p : Plan) (phase : Phase) (image : List ℕ) where
       let same : length image′ ≡ length image = ap length is ∙ length-stored p image e o in
       rw same h
 
--- ---- start
-pub start-refused : (p : Plan) (k n : ℕ) → k ≡ n → ¬ (k ≡ 0)
-    → Starts (record { number = k; device = record { plan = record { count = 0; widths = replicate 8 0 }; payload = replicate 256 0; phase = Cold } })
-    (startAnswer n p)
-start-refused p k zero e h = absurd (h e)
-start-refused p k (suc n) e h = record { number = e; device = refl }
+-- ---- start: the code's device is that of the plan none, which is all zeros, or of the plan given
+pub start-refused : (p : Plan) (d : Device) (k n : ℕ) → k ≡ n → ¬ (k ≡ 0)
+    → modelled d ≡ blanked (record { count = 0; widths = replicate 8 0 }) Cold
+    → Starts (record { number = k; device = d }) (startAnswer n p)
+start-refused p d k zero e h is = absurd (h e)
+start-refused p d k (suc n) e h is = record { number = e; device = is }
 
-pub start-accepted : (p : Plan) (k n : ℕ) → k ≡ n → k ≡ 0
-    → Starts (record { number = 0; device = record { plan = p; payload = replicate 256 0; phase = Cold } }) (startAnswer n p)
-start-accepted p k zero e z = record { number = refl; device = refl }
-start-accepted p k (suc n) e z = absurd (omega arith)
+pub start-accepted : (p : Plan) (d : Device) (k n : ℕ) → k ≡ n → k ≡ 0 → modelled d ≡ blanked p Cold
+    → Starts (record { number = 0; device = d }) (startAnswer n p)
+start-accepted p d k zero e z is = record { number = refl; device = is }
+start-accepted p d k (suc n) e z is = absurd (omega arith)
 
+-- ---- read
 pub part-refused : (k n : ℕ) (part : List ℕ) → k ≡ n → ¬ (k ≡ 0) → [] ≡ partUnlessRefused n part
 part-refused k zero part e h = absurd (h e)
 part-refused k (suc n) part e h = refl

@@ -6,10 +6,10 @@ ghost use mathlib.Core.List.{[], _∷_, _++_};
 ghost use mathlib.Core.Bool.{not, _||_};
 ghost use Prim.Native.Nat.{_≤_};
 ghost use lib.ListN.{length};
-ghost use Rattle.model.specs.Refusals.{isCold, isReady, _when_, first, deviceRow, readNumber, beginNumber};
+ghost use Rattle.model.specs.Refusals.{isCold, isReady, _when_, first, deviceRow, readNumber};
 ghost use Rattle.model.specs.Calls.{jobOf, viewOf, view, padded, start, format, begin, step, wake, cut, read, numberIn, unitIn, Inspects};
 ghost use Rattle.layout.specs.Seen.{seen};
-ghost use Rattle.store.specs.Modelled.{modelled, Gives, Starts};
+ghost use Rattle.store.specs.Modelled.{modelled, blanked, unitNumber, Gives, Starts};
 use layout::base_of;
 use layout::device_number;
 use layout::plan_number;
@@ -94,9 +94,9 @@ fn phase_number(plan: Plan, phase: Phase, length: usize, wrong: bool) -> u16
     if wrong { 5 } else { 0 }
 }
 
-// Refusals 1 to 8 of read.
-fn unit_number(plan: Plan, phase: Phase, image: &[u8], unit: u16) -> u16
-    ensures { λ r. ⌜ r ≡ readNumber (viewOf plan phase (now (image .entry))) unit ⌝ }
+// Refusals 1 to 8 of begin with a payload of `size` bytes. Read has no payload: it asks with the unit's own width.
+fn unit_number(plan: Plan, phase: Phase, image: &[u8], unit: u16, size: usize) -> u16
+    ensures { λ r. ⌜ r ≡ unitNumber (viewOf plan phase (now (image .entry))) unit size ⌝ }
 {
     let number = phase_number(plan, phase, image.len(), not_ready(phase));
     if number != 0 {
@@ -104,6 +104,9 @@ fn unit_number(plan: Plan, phase: Phase, image: &[u8], unit: u16) -> u16
     }
     if plan.count <= unit {
         return 6;
+    }
+    if size != (width_of(plan, unit) as usize) {
+        return 7;
     }
     let base = base_of(plan, unit);
     if image[base] != Marker::OK {
@@ -112,26 +115,11 @@ fn unit_number(plan: Plan, phase: Phase, image: &[u8], unit: u16) -> u16
     0
 }
 
-// Refusals 1 to 8 of begin.
-fn payload_number(plan: Plan, phase: Phase, image: &[u8], unit: u16, payload: &[u8]) -> u16
-    ensures { λ r. ⌜ r ≡ beginNumber (viewOf plan phase (now (image .entry))) unit (now (payload .entry)) ⌝ }
+// Refusals 1 to 8 of read.
+fn read_refusal(plan: Plan, phase: Phase, image: &[u8], unit: u16) -> u16
+    ensures { λ r. ⌜ r ≡ readNumber (viewOf plan phase (now (image .entry))) unit ⌝ }
 {
-    let number = phase_number(plan, phase, image.len(), not_ready(phase));
-    if number != 0 {
-        return number;
-    }
-    if plan.count <= unit {
-        return 6;
-    }
-    let width = width_of(plan, unit) as usize;
-    if payload.len() != width {
-        return 7;
-    }
-    let base = base_of(plan, unit);
-    if image[base] != Marker::OK {
-        return 8;
-    }
-    0
+    unit_number(plan, phase, image, unit, width_of(plan, unit) as usize)
 }
 
 // A payload as the device holds it: zeros after it.
@@ -148,6 +136,17 @@ fn zero_filled(payload: &[u8]) -> [u8; 256]
     held
 }
 
+// A device with a zero payload.
+fn blank(plan: Plan, phase: Phase) -> Device
+    ensures { λ r. ⌜ modelled r ≡ blanked plan phase ⌝ }
+{
+    Device {
+        plan: plan,
+        payload: [0u8; 256],
+        phase: phase,
+    }
+}
+
 impl Device {
     // A device for a plan: Cold, with a zero payload. Refused (1, 2): the device that is all zeros.
     pub fn start(plan: Plan) -> Answer
@@ -155,25 +154,18 @@ impl Device {
     {
         let number = plan_number(plan);
         if number != 0 {
+            let none = Plan {
+                count: 0,
+                widths: [0u16; 8],
+            };
             return Answer {
                 number: number,
-                device: Device {
-                    plan: Plan {
-                        count: 0,
-                        widths: [0u16; 8],
-                    },
-                    payload: [0u8; 256],
-                    phase: Phase::Cold,
-                },
+                device: blank(none, Phase::Cold),
             };
         }
         Answer {
             number: 0,
-            device: Device {
-                plan: plan,
-                payload: [0u8; 256],
-                phase: Phase::Cold,
-            },
+            device: blank(plan, Phase::Cold),
         }
     }
 
@@ -193,11 +185,7 @@ impl Device {
         format_units(plan, &mut image[..]);
         Answer {
             number: 0,
-            device: Device {
-                plan: plan,
-                payload: [0u8; 256],
-                phase: Phase::Ready,
-            },
+            device: blank(plan, Phase::Ready),
         }
     }
 
@@ -207,7 +195,7 @@ impl Device {
     {
         let plan = self.plan;
         let phase = self.phase;
-        let number = payload_number(plan, phase, image, unit, payload);
+        let number = unit_number(plan, phase, image, unit, payload.len());
         if number != 0 {
             return Answer {
                 number: number,
@@ -296,11 +284,7 @@ impl Device {
         tear_store(plan, &payload, phase, &mut image[..], m);
         Answer {
             number: 0,
-            device: Device {
-                plan: plan,
-                payload: [0u8; 256],
-                phase: Phase::Cold,
-            },
+            device: blank(plan, Phase::Cold),
         }
     }
 
@@ -310,7 +294,7 @@ impl Device {
     {
         let plan = self.plan;
         let phase = self.phase;
-        unit_number(plan, phase, image, unit)
+        read_refusal(plan, phase, image, unit)
     }
 
     // Copy A of a unit, as a part of the image; an empty part when refused.
@@ -319,7 +303,7 @@ impl Device {
     {
         let plan = self.plan;
         let phase = self.phase;
-        let number = unit_number(plan, phase, image, unit);
+        let number = read_refusal(plan, phase, image, unit);
         if number != 0 {
             return &image[..0];
         }

@@ -1,11 +1,11 @@
--- `store::unit_number` meets its contract: the row of read, number by number.
+-- `store::unit_number` meets its contract: the row of begin, number by number.
 use native.Mathlib.Omega.{arith}
-use mathlib.Core.Path.{sym, _∙_}
+use mathlib.Core.Path.{sym, ap, _∙_}
 use mathlib.Core.List.{[]}
+use mathlib.Core.Bool.{not}
 use denote.Ref.{now}
-use borrow.Author.Tests.{le-leb, lt-leb}
+use borrow.Author.Tests.{le-leb, lt-leb, eq-eqb, ne-eqb}
 use borrow.Author.Needs.{needs}
-use Rattle.model.specs.Refusals.{readNumber}
 use Rattle.model.proofs.RefusalLaws.{first-stop, first-skip, first-none}
 use Rattle.store.proofs.Laws.{ready-refused, ready-passed, marker-bad, marker-good, live, unit-inside}
 use Rattle.store.proofs.unit_number.Statement.{statement}
@@ -18,37 +18,47 @@ phase-number-requires : tie.Need-phase-number-requires
 phase-number-requires c κs = search needs
 
 returns : tie.Need-returns
-unfolding readNumber
 returns c = let a = c .before .before .before .before .args in
     ready-refused (a .plan) (a .phase) (now (a .image)) _ _ (c .before .phase-number .ensures) (c .before .before .not-ready .ensures) (c .if1 .taken) _
 
 returns-2 : tie.Need-returns-2
-unfolding readNumber
 returns-2 c = let a = c .before .before .before .before .before .before .args in
     sym (ready-passed (a .plan) (a .phase) (now (a .image)) _ _ (c .before .before .before .phase-number .ensures) (c .before .before .before .before .not-ready .ensures) (c .before .before .if1 .left) _
     ∙ first-stop 6 _ _ (le-leb _ _ (c .if2 .taken)))
 
+width-of-requires : tie.Need-width-of-requires
+width-of-requires c κs = search needs
+
+cast-if3 : tie.Need-cast-if3
+cast-if3 c = search needs
+
+returns-3 : tie.Need-returns-3
+returns-3 c = let a = c .before .before .before .before .before .before .before .before .args in
+    sym (ready-passed (a .plan) (a .phase) (now (a .image)) _ _ (c .before .before .before .before .before .phase-number .ensures) (c .before .before .before .before .before .before .not-ready .ensures) (c .before .before .before .before .if1 .left) _
+    ∙ first-skip 6 _ _ (lt-leb _ _ (c .before .before .if2 .left))
+    ∙ first-stop 7 _ _ (ap not (ne-eqb _ _ (rw (c .before .width-of .ensures) at (c .if3 .taken)))))
+
 base-of-requires : tie.Need-base-of-requires
 base-of-requires c κs = search needs
 
-shared-slice-read-if3 : tie.Need-shared-slice-read-if3
-shared-slice-read-if3 c = let a = c .before .before .before .before .before .before .before .before .args in
-    let l = live (a .plan) (a .phase) (now (a .image)) _ _ (c .before .before .before .before .before .phase-number .ensures) (c .before .before .before .before .if1 .left) in
-    omega (arith, unit-inside (a .plan) (a .phase) (now (a .image)) l (a .unit) (c .before .before .if2 .left), c .before .base-of .ensures .0)
-
-returns-3 : tie.Need-returns-3
-unfolding readNumber
-returns-3 c = let a = c .before .before .before .before .before .before .before .before .before .args in
-    sym (ready-passed (a .plan) (a .phase) (now (a .image)) _ _ (c .before .before .before .before .before .before .phase-number .ensures) (c .before .before .before .before .before .before .before .not-ready .ensures) (c .before .before .before .before .before .if1 .left) _
-    ∙ first-skip 6 _ _ (lt-leb _ _ (c .before .before .before .if2 .left))
-    ∙ first-stop 8 _ [] (marker-bad (a .plan) (a .phase) (now (a .image)) (a .unit) _ (c .before .before .base-of .ensures .0) (c .if3 .taken)))
+shared-slice-read-if4 : tie.Need-shared-slice-read-if4
+shared-slice-read-if4 c = let a = c .before .before .before .before .before .before .before .before .before .before .args in
+    let l = live (a .plan) (a .phase) (now (a .image)) _ _ (c .before .before .before .before .before .before .before .phase-number .ensures) (c .before .before .before .before .before .before .if1 .left) in
+    omega (arith, unit-inside (a .plan) (a .phase) (now (a .image)) l (a .unit) (c .before .before .before .before .if2 .left), c .before .base-of .ensures .0)
 
 returns-4 : tie.Need-returns-4
-unfolding readNumber
-returns-4 c = let a = c .before .before .before .before .before .before .before .before .before .args in
-    sym (ready-passed (a .plan) (a .phase) (now (a .image)) _ _ (c .before .before .before .before .before .before .phase-number .ensures) (c .before .before .before .before .before .before .before .not-ready .ensures) (c .before .before .before .before .before .if1 .left) _
-    ∙ first-skip 6 _ _ (lt-leb _ _ (c .before .before .before .if2 .left))
-    ∙ first-skip 8 _ [] (marker-good (a .plan) (a .phase) (now (a .image)) (a .unit) _ (c .before .before .base-of .ensures .0) (c .if3 .left)) ∙ first-none)
+returns-4 c = let a = c .before .before .before .before .before .before .before .before .before .before .before .args in
+    sym (ready-passed (a .plan) (a .phase) (now (a .image)) _ _ (c .before .before .before .before .before .before .before .before .phase-number .ensures) (c .before .before .before .before .before .before .before .before .before .not-ready .ensures) (c .before .before .before .before .before .before .before .if1 .left) _
+    ∙ first-skip 6 _ _ (lt-leb _ _ (c .before .before .before .before .before .if2 .left))
+    ∙ first-skip 7 _ _ (ap not (eq-eqb _ _ (rw (c .before .before .before .before .width-of .ensures) at (c .before .before .before .if3 .left))))
+    ∙ first-stop 8 _ [] (marker-bad (a .plan) (a .phase) (now (a .image)) (a .unit) _ (c .before .before .base-of .ensures .0) (c .if4 .taken)))
+
+returns-5 : tie.Need-returns-5
+returns-5 c = let a = c .before .before .before .before .before .before .before .before .before .before .before .args in
+    sym (ready-passed (a .plan) (a .phase) (now (a .image)) _ _ (c .before .before .before .before .before .before .before .before .phase-number .ensures) (c .before .before .before .before .before .before .before .before .before .not-ready .ensures) (c .before .before .before .before .before .before .before .if1 .left) _
+    ∙ first-skip 6 _ _ (lt-leb _ _ (c .before .before .before .before .before .if2 .left))
+    ∙ first-skip 7 _ _ (ap not (eq-eqb _ _ (rw (c .before .before .before .before .width-of .ensures) at (c .before .before .before .if3 .left))))
+    ∙ first-skip 8 _ [] (marker-good (a .plan) (a .phase) (now (a .image)) (a .unit) _ (c .before .before .base-of .ensures .0) (c .if4 .left)) ∙ first-none)
 
 pub unit-number-spec : {M : Type 1} → statement M
 unit-number-spec =
@@ -58,7 +68,10 @@ unit-number-spec =
     phase-number-requires
     returns
     returns-2
-    base-of-requires
-    shared-slice-read-if3
+    width-of-requires
+    cast-if3
     returns-3
-    returns-4)
+    base-of-requires
+    shared-slice-read-if4
+    returns-4
+    returns-5)

@@ -23,14 +23,17 @@ tear-store-requires : tie.Need-tear-store-requires
 tear-store-requires c κs = let a = c .before .before .before .before .before .before .before .args in
     (live (a .self .plan) (a .self .phase) (now (a .image)) _ [] (c .before .before .before .before .device-number .ensures) (c .before .before .before .if1 .left), search needs)
 
+blank-requires : tie.Need-blank-requires
+blank-requires c κs = search needs
+
 same-length : tie.Need-same-length
 same-length c = search needs
 
 returns-2 : tie.Need-returns-2
 unfolding cut imageAfter
-returns-2 c = let a = c .before .before .before .before .before .before .before .before .before .before .args in
-    accepted _ _ (a .self) (now (a .image)) _ _ _ (cut-number (a .self .plan) (a .self .phase) (now (a .image)) _ (c .before .before .before .before .before .before .before .device-number .ensures)) (c .before .before .before .before .before .before .if1 .left)
-    (record { number = refl; device = refl; image = c .before .before .tear-store .ensures })
+returns-2 c = let a = c .before .before .before .before .before .before .before .before .before .before .before .args in
+    accepted _ _ (a .self) (now (a .image)) _ _ _ (cut-number (a .self .plan) (a .self .phase) (now (a .image)) _ (c .before .before .before .before .before .before .before .before .device-number .ensures)) (c .before .before .before .before .before .before .before .if1 .left)
+    (record { number = refl; device = c .blank .ensures; image = c .before .before .before .tear-store .ensures })
 
 pub cut-spec : {M : Type 1} → statement M
 cut-spec =
@@ -40,5 +43,6 @@ cut-spec =
     returns
     slice-aggregate-tear-store
     tear-store-requires
+    blank-requires
     same-length
     returns-2)

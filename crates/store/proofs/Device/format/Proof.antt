@@ -24,14 +24,17 @@ format-units-requires c κs = let a = c .before .before .before .before .before 
     let r = room (a .self .plan) (a .self .phase) (now (a .image)) (live (a .self .plan) (a .self .phase) (now (a .image)) _ _ (c .before .before .phase-number .ensures) (c .before .if1 .left)) in
     (r .ok, r .long)
 
+blank-requires : tie.Need-blank-requires
+blank-requires c κs = search needs
+
 same-length : tie.Need-same-length
 same-length c = search needs
 
 returns-2 : tie.Need-returns-2
 unfolding format
-returns-2 c = let a = c .before .before .before .before .before .before .before .before .before .args in
-    accepted _ _ (a .self) (now (a .image)) _ _ _ (format-number (a .self .plan) (a .self .phase) (now (a .image)) _ _ (c .before .before .before .before .before .phase-number .ensures) (c .before .before .before .before .before .before .not-cold .ensures)) (c .before .before .before .before .if1 .left)
-    (record { number = refl; device = refl; image = c .before .before .format-units .ensures })
+returns-2 c = let a = c .before .before .before .before .before .before .before .before .before .before .args in
+    accepted _ _ (a .self) (now (a .image)) _ _ _ (format-number (a .self .plan) (a .self .phase) (now (a .image)) _ _ (c .before .before .before .before .before .before .phase-number .ensures) (c .before .before .before .before .before .before .before .not-cold .ensures)) (c .before .before .before .before .before .if1 .left)
+    (record { number = refl; device = c .blank .ensures; image = c .before .before .before .format-units .ensures })
 
 pub format-spec : {M : Type 1} → statement M
 format-spec =
@@ -41,5 +44,6 @@ format-spec =
     phase-number-requires
     returns
     format-units-requires
+    blank-requires
     same-length
     returns-2)
