@@ -82,10 +82,10 @@ blank (byte c i) = 0
 blank-unit : (w : ℕ) (c : Cell) → InUnit w c → getD (OK ∷ replicate (2 * w) 0) (offset w c) 0 ≡ blank c
 blank-unit w marker h = refl
 blank-unit w (byte copyA i) h =
-    ap (λ (q : ℕ). getD {A = ℕ} (1 ∷ replicate (2 * w) 0) q 0) {x = 1 + i} {y = suc i} (omega arith)
+    ap (λ (q : ℕ). getD {A = ℕ} (OK ∷ replicate (2 * w) 0) q 0) {x = 1 + i} {y = suc i} (omega arith)
     ∙ getD-replicate {A = ℕ} (2 * w) i 0 0 (omega arith)
 blank-unit w (byte copyB i) h =
-    ap (λ (q : ℕ). getD {A = ℕ} (1 ∷ replicate (2 * w) 0) q 0) {x = 1 + w + i} {y = suc (w + i)} (omega arith)
+    ap (λ (q : ℕ). getD {A = ℕ} (OK ∷ replicate (2 * w) 0) q 0) {x = 1 + w + i} {y = suc (w + i)} (omega arith)
     ∙ getD-replicate {A = ℕ} (2 * w) (w + i) 0 0 (omega arith)
 
 -- image′ is image but for the part of unit u that the cell y is of
