@@ -1,0 +1,138 @@
+/* The store's step and pass written by hand in C, with the same checks, for the benchmark. The same nine bytes on standard
+   input as crates/meter: units, width, 0 for step or 1 for pass, the unit, rounds, count. */
+#include <stdint.h>
+#include <stdio.h>
+#include <string.h>
+
+enum { OK = 1, A = 2, B = 4 };
+enum phase { COLD, READY, WRITING, RECOVERING };
+enum direction { A_TO_B, B_TO_A };
+
+struct plan { uint16_t count; uint16_t widths[8]; };
+
+struct device {
+    struct plan plan;
+    uint8_t payload[256];
+    enum phase phase;
+    uint16_t unit, made;
+    enum direction direction;
+};
+
+struct answer { uint16_t number; struct device device; };
+
+static size_t base_of(const struct plan *plan, uint16_t unit) {
+    size_t sum = 0;
+    for (uint16_t i = 0; i < unit; i++) sum += 1 + 2 * (size_t)plan->widths[i];
+    return sum;
+}
+
+static uint16_t plan_number(const struct plan *plan) {
+    if (plan->count == 0 || plan->count > 8) return 1;
+    for (uint16_t i = 0; i < plan->count; i++)
+        if (plan->widths[i] == 0 || plan->widths[i] > 256) return 2;
+    return 0;
+}
+
+static uint16_t device_number(const struct device *d, size_t length) {
+    uint16_t number = plan_number(&d->plan);
+    if (number) return number;
+    if (length < base_of(&d->plan, d->plan.count)) return 3;
+    if (d->phase == WRITING || d->phase == RECOVERING) {
+        if (d->unit >= d->plan.count) return 4;
+        uint32_t w = d->plan.widths[d->unit];
+        if (d->made >= (d->phase == WRITING ? 2 * w + 3 : w + 1)) return 4;
+    }
+    return 0;
+}
+
+static void clean_up_from(struct device *d, const uint8_t *image, uint16_t from) {
+    size_t at = base_of(&d->plan, from);
+    for (uint16_t u = from; u < d->plan.count; u++) {
+        if (image[at] != OK) {
+            d->phase = RECOVERING;
+            d->unit = u;
+            d->made = 0;
+            d->direction = image[at] == A ? B_TO_A : A_TO_B;
+            return;
+        }
+        at += 1 + 2 * (size_t)d->plan.widths[u];
+    }
+    d->phase = READY;
+}
+
+static void store_write(const struct device *d, uint8_t *unit, size_t w) {
+    size_t n = d->made;
+    if (n == 0) unit[0] = A;
+    else if (n <= w) unit[n] = d->payload[n - 1];
+    else if (n == w + 1) unit[0] = B;
+    else if (n <= 2 * w + 1) unit[n - 1] = d->payload[n - (w + 2)];
+    else unit[0] = OK;
+}
+
+static void store_cleanup(const struct device *d, uint8_t *unit, size_t w) {
+    size_t n = d->made;
+    if (n >= w) unit[0] = OK;
+    else if (d->direction == A_TO_B) unit[1 + w + n] = unit[1 + n];
+    else unit[1 + n] = unit[1 + w + n];
+}
+
+/* in place: what a pass does */
+__attribute__((noinline)) uint16_t pass(struct device *d, uint8_t *image, size_t length) {
+    uint16_t number = device_number(d, length);
+    if (number) return number;
+    if (d->phase == COLD || d->phase == READY) return 5;
+    size_t w = d->plan.widths[d->unit];
+    uint8_t *unit = image + base_of(&d->plan, d->unit);
+    if (d->phase == WRITING) {
+        store_write(d, unit, w);
+        if (++d->made == 2 * w + 3) d->phase = READY;
+    } else {
+        store_cleanup(d, unit, w);
+        if (++d->made == w + 1) clean_up_from(d, image, d->unit + 1);
+    }
+    return 0;
+}
+
+/* by value: the device whole in, and the next one out */
+__attribute__((noinline)) struct answer step(struct device d, uint8_t *image, size_t length) {
+    struct answer r;
+    r.device = d;
+    r.number = pass(&r.device, image, length);
+    return r;
+}
+
+__attribute__((noinline)) static struct device begin(struct device d, uint16_t unit, const uint8_t *payload, size_t size) {
+    memset(d.payload, 0, 256);
+    memcpy(d.payload, payload, size);
+    d.phase = WRITING;
+    d.unit = unit;
+    d.made = 0;
+    return d;
+}
+
+int main(void) {
+    uint8_t asked[9], image[4104] = {0}, payload[256];
+    if (fread(asked, 1, 9, stdin) != 9) return 1;
+    memset(payload, 'x', sizeof payload);
+    struct device formatted = {0};
+    uint16_t width = asked[1] | asked[2] << 8, unit = asked[4];
+    uint16_t rounds = asked[5] | asked[6] << 8, count = asked[7] | asked[8] << 8;
+    formatted.plan.count = asked[0];
+    for (int i = 0; i < 8; i++) formatted.plan.widths[i] = width;
+    formatted.phase = READY;
+    for (uint16_t i = 0; i < asked[0]; i++) image[base_of(&formatted.plan, i)] = OK;
+    for (uint16_t round = 0; round < rounds; round++) {
+        struct device held = begin(formatted, unit, payload, width);
+        for (uint16_t made = 0; made < count; made++) {
+            if (asked[3]) {
+                pass(&held, image, sizeof image);
+            } else {
+                struct answer r = step(held, image, sizeof image);
+                held = r.device;
+            }
+        }
+    }
+    fwrite(image + base_of(&formatted.plan, unit) + 1, 1, width, stdout);
+    puts("");
+    return 0;
+}
