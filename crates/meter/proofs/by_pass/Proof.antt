@@ -1,12 +1,10 @@
+-- `meter::by_pass` is safe and ends, as `by_step`.
 use Prim.Native.Nat.{_-_, _≤_}
-use mathlib.Core.Path.{_≡_}
-use lib.ListN.{length}
 use borrow.Author.Needs.{needs}
+use lib.ListN.{length}
+use mathlib.Core.Path.{_≡_}
 use Rattle.meter.proofs.by_pass.Statement.{statement}
 use Rattle.meter.proofs.by_pass.Tie as tie
-use Rattle.meter.proofs.by_pass.Reads as reads
-use Rattle.meter.proofs.by_pass.Lts as lts
-use Rattle.console.proofs.passed.Reads as passed-reads
 
 abbrev Inv-loop : tie.InvT-loop
 Inv-loop image₀ count held₀ made₀ image held made = (made ≤ count) × (length image ≡ length image₀)
@@ -14,31 +12,24 @@ Inv-loop image₀ count held₀ made₀ image held made = (made ≤ count) × (l
 abbrev μ-loop : tie.MeasureT-loop
 μ-loop image₀ count held₀ made₀ image held made = count - made
 
--- src/main.rt:31:5
 loop-holds : tie.Need-loop-holds Inv-loop μ-loop
 loop-holds c = search needs
 
--- src/main.rt:32:13
 passed-requires : tie.Need-passed-requires Inv-loop μ-loop
 passed-requires c κs = search needs
 
--- src/main.rt:34:16
 add-made : tie.Need-add-made Inv-loop μ-loop
 add-made c = search needs
 
--- src/main.rt:31:5
 loop-less : tie.Need-loop-less Inv-loop μ-loop
 loop-less c = search needs
 
--- src/main.rt:31:5
 loop-again : tie.Need-loop-again Inv-loop μ-loop
 loop-again c = search needs
 
--- src/main.rt:26:1
 same-length : tie.Need-same-length Inv-loop μ-loop
 same-length c = search needs
 
--- src/main.rt:26:1
 returns : tie.Need-returns Inv-loop μ-loop
 returns c = search needs
 
