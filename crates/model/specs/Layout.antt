@@ -5,10 +5,7 @@ use mathlib.Core.List.{List, [], _∷_, _++_}
 use lib.ListN.{getD, set, take, drop, replicate}
 use Rattle.model.specs.declared.Plan.{Plan}
 use Rattle.model.specs.Marker.{OK}
-
--- the width of unit u
-abbrev pub width : Plan → ℕ → ℕ
-width p u = getD (p .widths) u 0
+pub use Rattle.model.specs.Plans.{width}
 
 -- "A unit is its marker, copy A of w bytes, copy B of w bytes":
 pub data Copy : Type 0 where

@@ -7,7 +7,7 @@ use lib.Dec.{eqb}
 use lib.ListN.{replicate}
 use Rattle.model.specs.declared.Plan.{Plan}
 use Rattle.model.specs.Marker.{OK, A, B, End, completed, tornBy, markerLeft}
-use Rattle.model.specs.Layout.{width}
+use Rattle.model.specs.Plans.{width}
 use Rattle.model.specs.Refusals.{Job, cold, ready, writing, recovering, View, beginNumber, stepNumber, cutNumber, wakeNumber}
 
 -- the calls of demand 3's lists, with their arguments

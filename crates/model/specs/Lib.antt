@@ -1,4 +1,5 @@
 pub mod Marker
+pub mod Plans
 pub mod Layout
 pub mod Refusals
 pub mod Stores

@@ -1,5 +1,5 @@
 -- Document 01, 'Refusals': every refusal of every call of the store, in one table.
--- Device and ledger are both judged by it, so the power-cut theorem cannot notice a wrong condition here: specs/Cases.antt
+-- Device and ledger are both judged by it, so the power-cut theorem cannot notice a wrong condition here: specs/Edges.antt
 -- has a computed case for each number in each call.
 use Prim.Native.Nat.{ℕ, zero, suc, _+_, _*_}
 use mathlib.Core.List.{List, [], _∷_, _++_}
@@ -7,7 +7,8 @@ use mathlib.Core.Bool.{Bool, true, false, cond, not, _||_}
 use lib.Dec.{eqb, ltb, leb}
 use lib.ListN.{length}
 use Rattle.model.specs.declared.Plan.{Plan}
-use Rattle.model.specs.Layout.{width}
+unfoldable pub use Rattle.model.specs.Plans.{badCount, badWidths}
+use Rattle.model.specs.Plans.{width}
 use Rattle.model.specs.Marker.{OK}
 
 -- A phase without its direction: "a phase (as above, without direction)" is what the ledger keeps.
@@ -42,15 +43,6 @@ pub record View : Type 0 where
   pub short : Bool
   pub job : Job
   pub marker : ℕ → ℕ
-
--- "1 k is 0 or above 8"
-unfoldable pub badCount : Plan → Bool
-badCount p = eqb (p .count) 0 || ltb 8 (p .count)
-
--- "2 one of the first k widths is 0 or above 256"
-unfoldable pub badWidths : Plan → ℕ → Bool
-badWidths p zero = false
-badWidths p (suc k) = badWidths p k || (eqb (width p k) 0 || ltb 256 (width p k))
 
 -- "4 a phase whose unit is k or more, or whose stores made are not below the job's total"
 unfoldable pub badJob : Plan → Job → Bool

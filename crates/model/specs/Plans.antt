@@ -1,0 +1,19 @@
+-- Document 01, 'Plan and image': what a plan says of its units, and what can be wrong with it.
+use Prim.Native.Nat.{ℕ, zero, suc}
+use mathlib.Core.Bool.{Bool, false, _||_}
+use lib.Dec.{eqb, ltb}
+use lib.ListN.{getD}
+use Rattle.model.specs.declared.Plan.{Plan}
+
+-- the width of unit u
+abbrev pub width : Plan → ℕ → ℕ
+width p u = getD (p .widths) u 0
+
+-- "1 k is 0 or above 8"
+unfoldable pub badCount : Plan → Bool
+badCount p = eqb (p .count) 0 || ltb 8 (p .count)
+
+-- "2 one of the first k widths is 0 or above 256"
+unfoldable pub badWidths : Plan → ℕ → Bool
+badWidths p zero = false
+badWidths p (suc k) = badWidths p k || (eqb (width p k) 0 || ltb 256 (width p k))
