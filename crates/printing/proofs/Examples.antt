@@ -1,0 +1,35 @@
+-- The printed lines of document 01's whole case, and numbers at their edges.
+use Prim.Native.Nat.{ℕ}
+use mathlib.Core.Path.{_≡_, refl}
+use mathlib.Core.List.{List, [], _∷_, _++_, map}
+use Rattle.model.specs.declared.Plan.{Plan}
+use Rattle.model.specs.Layout.{base, get, copyOf}
+use Rattle.script.specs.Ascii.{ascii}
+use Rattle.printing.specs.Text.{digit, hex, bytesText, digitAt, decimal, numbered, answerLine, listed, unitText, unitLine}
+
+-- `(plan (2 1))`
+abbrev twoUnits : Plan
+twoUnits = record { count = 2; widths = 2 ∷ 1 ∷ 0 ∷ 0 ∷ 0 ∷ 0 ∷ 0 ∷ 0 ∷ [] }
+
+-- the image at the first `(show)`
+abbrev afterCut : List ℕ
+afterCut = 2 ∷ 10 ∷ 11 ∷ 0 ∷ 0 ∷ 1 ∷ 0 ∷ 0 ∷ []
+
+pub shown : unitLine twoUnits afterCut 0 ++ unitLine twoUnits afterCut 1
+    ≡ ascii "(unit 0 (log 02) (a 0a 0b) (b 00 00))\n(unit 1 (log 01) (a 00) (b 00))\n"
+unfolding unitLine unitText listed numbered decimal digitAt bytesText hex digit get copyOf base
+shown = refl
+
+pub answered : answerLine (ascii "plan") 0 ++ answerLine (ascii "write") 7 ++ answerLine (ascii "bad") 65536
+    ≡ ascii "plan 0\nwrite 7\nbad 65536\n"
+unfolding answerLine numbered decimal digitAt digit
+answered = refl
+
+pub decimals : map decimal (0 ∷ 9 ∷ 10 ∷ 99 ∷ 100 ∷ 909 ∷ 1000 ∷ 10000 ∷ 65535 ∷ 99999 ∷ [])
+    ≡ map ascii ("0" ∷ "9" ∷ "10" ∷ "99" ∷ "100" ∷ "909" ∷ "1000" ∷ "10000" ∷ "65535" ∷ "99999" ∷ [])
+unfolding decimal digitAt digit
+decimals = refl
+
+pub bytes : bytesText (0 ∷ 9 ∷ 10 ∷ 15 ∷ 16 ∷ 160 ∷ 255 ∷ []) ≡ ascii " 00 09 0a 0f 10 a0 ff"
+unfolding bytesText hex digit
+bytes = refl

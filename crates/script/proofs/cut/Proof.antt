@@ -1,0 +1,29 @@
+-- `script::cut` meets its contract: the calls nest as the definition does.
+use borrow.Author.Needs.{needs}
+use Rattle.script.specs.Line.{cutOf}
+use Rattle.script.proofs.cut.Statement.{statement}
+use Rattle.script.proofs.cut.Tie as tie
+
+slice-aggregate-word : tie.Need-slice-aggregate-word
+slice-aggregate-word c = search needs
+
+word-requires : tie.Need-word-requires
+word-requires c κs = search needs
+
+hex-requires : tie.Need-hex-requires
+hex-requires c κs = search needs
+
+cast-t7 : tie.Need-cast-t7
+cast-t7 c = search needs
+
+closed-requires : tie.Need-closed-requires
+closed-requires c κs = search needs
+
+returns : tie.Need-returns
+unfolding cutOf
+returns c = cc
+
+pub cut-spec : {M : Type 1} → statement M
+cut-spec =
+    tie.close
+    (tie.spec slice-aggregate-word word-requires hex-requires cast-t7 closed-requires returns)

@@ -1,0 +1,26 @@
+-- `script::plan` meets its contract: the calls nest as the definition does.
+use borrow.Author.Needs.{needs}
+use Rattle.script.specs.Line.{planOf}
+use Rattle.script.proofs.plan.Statement.{statement}
+use Rattle.script.proofs.plan.Tie as tie
+
+slice-aggregate-word : tie.Need-slice-aggregate-word
+slice-aggregate-word c = search needs
+
+word-requires : tie.Need-word-requires
+word-requires c κs = search needs
+
+list-at-requires : tie.Need-list-at-requires
+list-at-requires c κs = search needs
+
+closed-requires : tie.Need-closed-requires
+closed-requires c κs = search needs
+
+returns : tie.Need-returns
+unfolding planOf
+returns c = cc
+
+pub plan-spec : {M : Type 1} → statement M
+plan-spec =
+    tie.close
+    (tie.spec slice-aggregate-word word-requires list-at-requires closed-requires returns)

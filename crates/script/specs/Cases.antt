@@ -1,0 +1,82 @@
+-- Worked lines: a table, and one theorem that the definitions give each row; then the values of some lists.
+use Prim.Native.Nat.{ℕ, zero, suc}
+use mathlib.Core.Path.{_≡_, refl}
+use mathlib.Core.List.{List, [], _∷_, _++_, map}
+use Rattle.script.specs.declared.Form.the-variants.{Plan, Write, Step, Cut, Wake, Show}
+use Rattle.script.specs.declared.Kind.the-variants.{Byte}
+use Rattle.script.specs.declared.Line.{Line}
+use Rattle.script.specs.declared.Line.the-variants.{Is, Bad}
+use Rattle.script.specs.Ascii.{ascii}
+use Rattle.script.specs.Line.{eatAt, wordAt, digitOf, digitAt, extendAt, hexAt, moreAt, atMost, numberAt, itemAt, itemsAt, listAt, closedAt, planOf, writeOf, stepOf, cutOf, bareOf, _or_, formOf}
+use Rattle.script.specs.Items.{valuesAt, widthsAt}
+
+-- so many bytes f7, each with a space after it
+abbrev many : ℕ → List ℕ
+many zero = []
+many (suc count) = ascii "f7 " ++ many count
+
+-- a line, and what it says; a list is told by its place and count
+pub rows : List (List ℕ × Line)
+rows =
+    (ascii "(plan (2 1))", Is (Plan 7 2))
+    ∷ (ascii "(plan ())", Is (Plan 7 0))
+    ∷ (ascii "(plan (0 65535))", Is (Plan 7 2))
+    ∷ (ascii "(plan (1 2 3 4 5 6 7 8 9 10 11 12 13 14 15 16))", Is (Plan 7 16))
+    ∷ (ascii "(plan (1 2 3 4 5 6 7 8 9 10 11 12 13 14 15 16 17))", Bad)
+    ∷ (ascii "(plan (65536))", Bad)
+    ∷ (ascii "(plan (01))", Bad)
+    ∷ (ascii "(plan ( 1))", Bad)
+    ∷ (ascii "(plan (1 ))", Bad)
+    ∷ (ascii "(plan (2 1)", Bad)
+    ∷ (ascii "(plan 2 1)", Bad)
+    ∷ (ascii "(plan)", Bad)
+    ∷ (ascii "(write 0 (0a 0b))", Is (Write 0 10 2))
+    ∷ (ascii "(write 65535 ())", Is (Write 65535 14 0))
+    ∷ (ascii "(write 65536 ())", Bad)
+    ∷ (ascii "(write 00 ())", Bad)
+    ∷ (ascii "(write 0 (0A))", Bad)
+    ∷ (ascii "(write 0 (0a  0b))", Bad)
+    ∷ (ascii "(write  0 ())", Bad)
+    ∷ (ascii "(write 0 (0a0b))", Bad)
+    ∷ (ascii "(write 0 (0a,0b))", Bad)
+    ∷ (ascii "(write 1 (" ++ many 255 ++ ascii "00))", Is (Write 1 10 256))
+    ∷ (ascii "(write 1 (" ++ many 256 ++ ascii "00))", Bad)
+    ∷ (ascii "(step 1)", Is (Step 1))
+    ∷ (ascii "(step 65535)", Is (Step 65535))
+    ∷ (ascii "(step 65536)", Bad)
+    ∷ (ascii "(step 100000)", Bad)
+    ∷ (ascii "(step 0)", Bad)
+    ∷ (ascii "(step 03)", Bad)
+    ∷ (ascii "(step )", Bad)
+    ∷ (ascii "(step -1)", Bad)
+    ∷ (ascii "(step 1a)", Bad)
+    ∷ (ascii "(cut 0a)", Is (Cut 10))
+    ∷ (ascii "(cut ff)", Is (Cut 255))
+    ∷ (ascii "(cut FF)", Bad)
+    ∷ (ascii "(cut a)", Bad)
+    ∷ (ascii "(cut 00a)", Bad)
+    ∷ (ascii "(cut 0g)", Bad)
+    ∷ (ascii "(wake)", Is Wake)
+    ∷ (ascii "(wake) ", Bad)
+    ∷ (ascii "(wake)\r", Bad)
+    ∷ (ascii "(wake)(wake)", Bad)
+    ∷ (ascii " (wake)", Bad)
+    ∷ (ascii "(Wake)", Bad)
+    ∷ (ascii "(show)", Is Show)
+    ∷ (ascii "(show", Bad)
+    ∷ (ascii "show)", Bad)
+    ∷ (ascii "(show\t)", Bad)
+    ∷ (ascii "()", Bad)
+    ∷ ([], Bad)
+    ∷ []
+
+pub lines : map (λ (row : List ℕ × Line). formOf (row .0)) rows ≡ map (λ (row : List ℕ × Line). row .1) rows
+unfolding rows formOf _or_ bareOf cutOf stepOf writeOf planOf closedAt listAt itemsAt itemAt numberAt atMost moreAt hexAt extendAt digitAt digitOf wordAt eatAt
+lines = refl
+
+-- the values of a list, bytes and widths
+pub values : (valuesAt Byte (ascii "(write 0 (0a ff))") 10 2 ≡ 10 ∷ 255 ∷ [])
+    × (widthsAt (ascii "(plan (2 1))") 7 2 ≡ 2 ∷ 1 ∷ 0 ∷ 0 ∷ 0 ∷ 0 ∷ 0 ∷ 0 ∷ [])
+    × (widthsAt (ascii "(plan (1 2 3 4 5 6 7 8 9))") 7 9 ≡ 1 ∷ 2 ∷ 3 ∷ 4 ∷ 5 ∷ 6 ∷ 7 ∷ 8 ∷ [])
+unfolding valuesAt widthsAt itemAt numberAt atMost moreAt hexAt extendAt digitAt digitOf eatAt
+values = (refl, refl, refl)

@@ -1,0 +1,88 @@
+-- A caller's law: how many items the list of a form has, for every line. With `e : formOf line ≡ Is (Write unit at count)`,
+-- `rw e at (counted line)` is `count ≤ 256`.
+use Prim.Native.Nat.{ℕ, zero, suc, _+_, _≤_}
+use mathlib.Core.Bool.{Bool, true, false, cond}
+use mathlib.Core.List.{List}
+use Prim.Native.Char.{code}
+use lib.ListN.{length}
+use lib.Dec.{eqb}
+use native.Mathlib.Omega.{arith}
+use Rattle.script.specs.Ascii.{ascii}
+use Rattle.script.specs.declared.Kind.{Kind}
+use Rattle.script.specs.declared.Kind.the-variants.{Byte, Number}
+use Rattle.script.specs.declared.Item.{Item}
+use Rattle.script.specs.declared.Items.{Items}
+use Rattle.script.specs.declared.Form.{Form}
+use Rattle.script.specs.declared.Form.the-variants.{Plan, Write, Step, Cut, Wake, Show}
+use Rattle.script.specs.declared.Line.{Line}
+use Rattle.script.specs.declared.Line.the-variants.{Is, Bad}
+use Rattle.script.specs.Line.{lost, eatAt, wordAt, numberAt, itemAt, items, endsAt, itemsAt, listAt, closedAt, planOf, writeOf, stepOf, cutOf, bareOf, _or_, formOf}
+
+-- "0 to 16 widths", "0 to 256 bytes"
+abbrev pub Counted : Line → Type 0
+Counted (Is (Plan at count)) = count ≤ 16
+Counted (Is (Write unit at count)) = count ≤ 256
+Counted (Is (Step count)) = Unit {0}
+Counted (Is (Cut torn)) = Unit {0}
+Counted (Is Wake) = Unit {0}
+Counted (Is Show) = Unit {0}
+Counted Bad = Unit {0}
+
+-- what both lists keep, the chosen one keeps; and so for lines below
+either : (most : ℕ) (test : Bool) (x y : Items) → x .count ≤ most → y .count ≤ most → cond test x y .count ≤ most
+either most true x y p q = p
+either most false x y p q = q
+
+items-counted : (kind : Kind) (line : List ℕ) (at most count : ℕ) → itemsAt kind line at most count .count ≤ most + count
+unfolding itemsAt
+items-counted kind line at zero count = omega arith
+items-counted kind line at (suc most) count =
+    let past : ℕ = itemAt kind line at .next in
+    let end : ℕ = eatAt line past (code ")") in
+    let l = items-counted kind line (eatAt line past (code " ")) most (count + 1) in
+    either (suc most + count) (eqb end lost) _ (items (count + 1) end) (omega (arith, l)) (omega arith)
+
+list-counted : (kind : Kind) (line : List ℕ) (at most : ℕ) → listAt kind line at most .count ≤ most
+unfolding listAt
+list-counted kind line at most =
+    let end : ℕ = eatAt line at (code ")") in
+    let longer : Items = itemsAt kind line at most 0 in
+    let l = items-counted kind line at most 0 in
+    either most (eqb at lost) (items 0 lost) (endsAt end 0 longer) (omega arith) (either most (eqb end lost) longer (items 0 end) (omega (arith, l)) (omega arith))
+
+chosen-counted : (test : Bool) (x y : Line) → Counted x → Counted y → Counted (cond test x y)
+chosen-counted true x y p q = p
+chosen-counted false x y p q = q
+
+closed-counted : (line : List ℕ) (at : ℕ) (form : Form) → Counted (Is form) → Counted (closedAt line at form)
+unfolding closedAt
+closed-counted line at form h = chosen-counted (eqb (eatAt line at (code ")")) (length line)) (Is form) Bad h tt
+
+or-counted : (first other : Line) → Counted first → Counted other → Counted (first or other)
+unfolding _or_
+or-counted (Is form) other f o = f
+or-counted Bad other f o = o
+
+plan-counted : (line : List ℕ) → Counted (planOf line)
+unfolding planOf
+plan-counted line = closed-counted line _ _ (list-counted Number line _ 16)
+
+write-counted : (line : List ℕ) → Counted (writeOf line)
+unfolding writeOf
+write-counted line = closed-counted line _ _ (list-counted Byte line _ 256)
+
+step-counted : (line : List ℕ) → Counted (stepOf line)
+unfolding stepOf
+step-counted line =
+    let count : Item = numberAt line (wordAt line 0 (ascii "(step ")) in
+    chosen-counted (eqb (count .value) 0) Bad _ tt (closed-counted line (count .next) (Step (count .value)) tt)
+
+cut-counted : (line : List ℕ) → Counted (cutOf line)
+unfolding cutOf
+cut-counted line = closed-counted line _ _ tt
+
+pub counted : (line : List ℕ) → Counted (formOf line)
+unfolding formOf bareOf
+counted line =
+    or-counted _ _ (plan-counted line) (or-counted _ _ (write-counted line) (or-counted _ _ (step-counted line) (or-counted _ _ (cut-counted line)
+    (or-counted _ _ (closed-counted line _ Wake tt) (closed-counted line _ Show tt)))))

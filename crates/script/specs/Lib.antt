@@ -1,0 +1,5 @@
+pub mod Ascii
+pub mod Line
+pub mod Items
+pub mod Counts
+pub mod Cases
