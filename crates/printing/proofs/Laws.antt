@@ -1,5 +1,5 @@
 -- A text is written piece by piece.
-use Prim.Native.Nat.{ℕ, zero, suc, _+_, _-_, _<_, _≤_}
+use Prim.Native.Nat.{ℕ, suc, _+_, _-_, _<_, _≤_}
 use Prim.Native.Char.{code}
 use mathlib.Core.Path.{_≡_, refl, _∙_, sym, ap}
 use mathlib.Core.List.{List, [], _∷_, _++_}
@@ -9,7 +9,7 @@ use native.Mathlib.Numerals.{add-one}
 use native.Mathlib.Nat.{add-zero, add-sub-cancel-left}
 use native.Mathlib.Omega.{arith}
 use Rattle.model.specs.declared.Plan.{Plan}
-use Rattle.model.specs.Layout.{copyA, copyB, marker, width, unitLength, base, total, get, copyOf}
+use Rattle.model.specs.Layout.{width, unitLength, base, total, get, copyOf}
 use Rattle.model.specs.Refusals.{startNumber}
 use Rattle.model.proofs.RefusalLaws.{start-says, width-bounds}
 use Rattle.model.proofs.LayoutLaws.{base-bound}

@@ -2,7 +2,7 @@
 // past its text. Its one user is the bench program, which sees to the space before it calls: the `requires` ask for the most
 // bytes that a text can take, and the `ensures` give that bound back.
 ghost use mathlib.Core.Path.{_≡_};
-ghost use mathlib.Core.List.{[], _∷_, _++_};
+ghost use mathlib.Core.List.{[], _∷_};
 ghost use Prim.Native.Nat.{_+_, _*_, _<_, _≤_};
 ghost use lib.ListN.{length};
 ghost use Rattle.model.specs.Layout.{total};
@@ -129,8 +129,10 @@ fn put_list(out: &mut [u8], at: usize, word: &[u8], bytes: &[u8]) -> usize
 
 // A unit's line from its parts.
 fn put_parts(out: &mut [u8], at: usize, number: usize, log: &[u8], a: &[u8], b: &[u8]) -> usize
-    requires { ⌜ (at + 27 + 3 * length (now log) + 3 * length (now a) + 3 * length (now b) ≤ length (now out)) × (number < 100000) ⌝ }
-    ensures { λ r. ⌜ Wrote (now (out .entry)) at (unitText number (now (log .entry)) (now (a .entry)) (now (b .entry))) (now (out .exit)) r
+    requires { ⌜ (at + 27 + 3 * length (now log) + 3 * length (now a) + 3 * length (now b) ≤ length (now out))
+        × (number < 100000) ⌝ }
+    ensures { λ r. ⌜ Wrote (now (out .entry)) at (unitText number (now (log .entry)) (now (a .entry)) (now (b .entry)))
+        (now (out .exit)) r
         × (r ≤ at + 27 + 3 * length (now (log .entry)) + 3 * length (now (a .entry)) + 3 * length (now (b .entry))) ⌝ }
 {
     let place = put_numbered(out, at, b"(unit", number);
@@ -142,8 +144,10 @@ fn put_parts(out: &mut [u8], at: usize, number: usize, log: &[u8], a: &[u8], b: 
 
 // The line of a unit of an accepted plan, read from the image.
 pub fn put_unit(out: &mut [u8], at: usize, plan: Plan, image: &[u8], unit: u16) -> usize
-    requires { ⌜ (at + lineMost ≤ length (now out)) × (startNumber plan ≡ 0) × (total plan ≤ length (now image)) × (unit < plan .count) ⌝ }
-    ensures { λ r. ⌜ Wrote (now (out .entry)) at (unitLine plan (now (image .entry)) unit) (now (out .exit)) r × (r ≤ at + lineMost) ⌝ }
+    requires { ⌜ (at + lineMost ≤ length (now out)) × (startNumber plan ≡ 0) × (total plan ≤ length (now image))
+        × (unit < plan .count) ⌝ }
+    ensures { λ r. ⌜ Wrote (now (out .entry)) at (unitLine plan (now (image .entry)) unit) (now (out .exit)) r
+        × (r ≤ at + lineMost) ⌝ }
 {
     let width = width_of(plan, unit) as usize;
     let base = base_of(plan, unit);

@@ -1,7 +1,7 @@
--- A caller's law: how many items the list of a form has, for every line. With `e : formOf line ≡ Is (Write unit at count)`,
--- `rw e at (counted line)` is `count ≤ 256`.
+-- A caller's laws: how many items the list of a form has, on every line.
 use Prim.Native.Nat.{ℕ, zero, suc, _+_, _≤_}
 use mathlib.Core.Bool.{Bool, true, false, cond}
+use mathlib.Core.Path.{_≡_}
 use mathlib.Core.List.{List}
 use Prim.Native.Char.{code}
 use lib.ListN.{length}
@@ -19,7 +19,7 @@ use Rattle.script.specs.declared.Line.the-variants.{Is, Bad}
 use Rattle.script.specs.Line.{lost, eatAt, wordAt, numberAt, itemAt, items, endsAt, itemsAt, listAt, closedAt, planOf, writeOf, stepOf, cutOf, bareOf, _or_, formOf}
 
 -- "0 to 16 widths", "0 to 256 bytes"
-abbrev pub Counted : Line → Type 0
+abbrev Counted : Line → Type 0
 Counted (Is (Plan at count)) = count ≤ 16
 Counted (Is (Write unit at count)) = count ≤ 256
 Counted (Is (Step count)) = Unit {0}
@@ -81,8 +81,14 @@ cut-counted : (line : List ℕ) → Counted (cutOf line)
 unfolding cutOf
 cut-counted line = closed-counted line _ _ tt
 
-pub counted : (line : List ℕ) → Counted (formOf line)
+counted : (line : List ℕ) → Counted (formOf line)
 unfolding formOf bareOf
 counted line =
     or-counted _ _ (plan-counted line) (or-counted _ _ (write-counted line) (or-counted _ _ (step-counted line) (or-counted _ _ (cut-counted line)
     (or-counted _ _ (closed-counted line _ Wake tt) (closed-counted line _ Show tt)))))
+
+pub plan-count : (line : List ℕ) (at count : ℕ) → formOf line ≡ Is (Plan at count) → count ≤ 16
+plan-count line at count e = rw e at (counted line)
+
+pub write-count : (line : List ℕ) (unit at count : ℕ) → formOf line ≡ Is (Write unit at count) → count ≤ 256
+write-count line unit at count e = rw e at (counted line)
