@@ -74,6 +74,10 @@ module _ (p : Plan) where
   unfolding startNumber
   plan-fine h e = sym (first-skip 1 _ _ h ∙ first-skip 2 _ _ e ∙ first-none)
 
+  -- a plan that is refused is promised no length
+  pub unmeasured : (n k t : ℕ) → n ≡ suc k → suc k ≡ startNumber p → (n ≡ startNumber p) × (n ≡ 0 → t ≡ total p)
+  unmeasured n k t e is = (e ∙ is, λ z. absurd (omega arith))
+
   pub base-more : (u : ℕ) → base p (u + 1) ≡ base p u + unitLength (width p u)
   unfolding base
   base-more u = rw (add-one u)

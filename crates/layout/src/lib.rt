@@ -5,7 +5,7 @@ ghost use mathlib.Core.Bool.{_||_};
 ghost use mathlib.Core.List.{[], _∷_};
 ghost use Prim.Native.Nat.{_*_, _≤_};
 ghost use lib.Dec.{leb};
-ghost use Rattle.model.specs.Layout.{unitLength, base, width};
+ghost use Rattle.model.specs.Layout.{unitLength, base, total, width};
 ghost use Rattle.model.specs.Refusals.{_when_, first, startNumber, deviceRow};
 ghost use Rattle.layout.specs.Seen.{seen};
 use model::Phase;
@@ -40,29 +40,57 @@ pub fn base_of(plan: Plan, unit: u16) -> usize
     sum
 }
 
-// 0, or refusal 1 or 2.
-pub fn plan_number(plan: Plan) -> u16
-    ensures { λ r. ⌜ r ≡ startNumber plan ⌝ }
+// What one look at a plan's widths gives: 0, or refusal 1 or 2, and the bytes of all units if there is no refusal.
+struct Measured {
+    number: u16,
+    total: usize,
+}
+
+// A plan that is refused has no length.
+fn unfit(number: u16) -> Measured
+    ensures { λ r. ⌜ (r .number ≡ number) ⌝ }
+{
+    Measured {
+        number: number,
+        total: 0,
+    }
+}
+
+fn measure(plan: Plan) -> Measured
+    ensures { λ r. ⌜ (r .number ≡ startNumber plan) × (r .number ≡ 0 → r .total ≡ total plan) ⌝ }
 {
     let count = plan.count;
     if count == 0 {
-        return 1;
+        return unfit(1);
     }
     if 8 < count {
-        return 1;
+        return unfit(1);
     }
+    let mut total: usize = 0;
     let mut i: u16 = 0;
     while i < count {
         let width = width_of(plan, i);
         if width == 0 {
-            return 2;
+            return unfit(2);
         }
         if 256 < width {
-            return 2;
+            return unfit(2);
         }
+        total = total + unit_length(width);
         i = i + 1;
     }
-    0
+    Measured {
+        number: 0,
+        total: total,
+    }
+}
+
+// 0, or refusal 1 or 2.
+pub fn plan_number(plan: Plan) -> u16
+    ensures { λ r. ⌜ r ≡ startNumber plan ⌝ }
+{
+    let whole = measure(plan);
+    whole.number
 }
 
 // 0, or refusal 4: a phase of no unit, or with as many stores made as the job has.
@@ -82,11 +110,13 @@ fn job_number(plan: Plan, unit: u16, made: u16, total: u32) -> u16
 pub fn device_number(plan: Plan, phase: Phase, length: usize) -> u16
     ensures { λ r. ⌜ r ≡ first (deviceRow (seen plan phase length)) ⌝ }
 {
-    let number = plan_number(plan);
+    let whole = measure(plan);
+    let number = whole.number;
+    let total = whole.total;
     if number != 0 {
         return number;
     }
-    if length < base_of(plan, plan.count) {
+    if length < total {
         return 3;
     }
     match phase {

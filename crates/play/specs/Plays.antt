@@ -1,10 +1,10 @@
 -- Document 01, 'Bench program': what each form does to the device and the image, and where its line is printed.
-use Prim.Native.Nat.{ℕ, zero, suc, _-_, _≤_}
+use Prim.Native.Nat.{ℕ, _-_, _≤_}
 use mathlib.Core.Bool.{Bool, true, false, cond}
 use mathlib.Core.Path.{_≡_}
 use mathlib.Core.List.{List}
 use mathlib.Core.Option.{Option, none, some}
-use lib.Dec.{eqb, ltb}
+use lib.Dec.{ltb}
 use lib.ListN.{length}
 use Rattle.script.specs.declared.Form.{Form}
 use Rattle.script.specs.declared.Form.the-variants.{Plan, Write, Step, Cut, Wake, Show}
@@ -14,6 +14,7 @@ use Rattle.script.specs.Items.{valuesAt}
 use Rattle.printing.specs.Text.{answerLine, lineMost}
 use Rattle.printing.specs.Wrote.{Wrote}
 use Rattle.store.specs.Modelled.{modelled}
+use Rattle.store.specs.Steps.{steps}
 use Rattle.model.specs.declared.Plan as model
 use Rattle.model.specs.Layout.{total}
 use Rattle.model.specs.Refusals.{startNumber}
@@ -32,13 +33,6 @@ placeFor size used = cond (ltb (size - used) lineMost) 0 used
 -- the plan is accepted, and the image holds its units
 abbrev pub Held : model.Plan → List ℕ → Type 0
 Held p image = (startNumber p ≡ 0) × (total p ≤ length image)
-
--- "`(step N)`, N 1 to 65535, ending early at a refusal"
-unfoldable pub steps : ℕ → Device → List ℕ → Outcome
-steps zero d image = outcome 0 d image
-steps (suc n) d image =
-    let o : Outcome = calls.step d image in
-    cond (eqb (o .number) 0) (steps n (o .device) (o .image)) o
 
 -- a form of a line after the first. A plan may not stand there, and show only looks.
 unfoldable pub plays : Form → List ℕ → Device → List ℕ → Outcome

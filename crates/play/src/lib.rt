@@ -21,7 +21,7 @@ ghost use Rattle.script.specs.Items.{valuesAt};
 ghost use Rattle.script.specs.Line.{formOf};
 ghost use Rattle.printing.specs.Text.{answerLine, lineMost};
 ghost use Rattle.printing.specs.Wrote.{Wrote};
-ghost use Rattle.play.specs.Plays.{Buffer, placeFor, Held, steps, plays, Plays};
+ghost use Rattle.play.specs.Plays.{Buffer, placeFor, Held, plays, Plays};
 
 // The device after a line, and how much of the buffer is used; `bad` if the line may not stand where it does.
 struct Played {
@@ -99,26 +99,6 @@ fn write(device: Device, image: &[u8], line: &[u8], unit: u16, at: usize, count:
     device.begin(image, unit, &payload[..count])
 }
 
-// Up to so many steps, ending early at a refusal: the answer of the last.
-fn step_on(device: Device, image: &mut [u8], count: u16) -> Answer
-    ensures { λ r. ⌜ Gives r (now (image .exit)) (steps count (modelled device) (now (image .entry))) ⌝ }
-{
-    let mut answer = Answer {
-        number: 0,
-        device: device,
-    };
-    let mut made: u16 = 0;
-    while made < count {
-        let device = answer.device;
-        answer = device.step(image);
-        if answer.number != 0 {
-            return answer;
-        }
-        made = made + 1;
-    }
-    answer
-}
-
 // Prints the form's word and the answer's number.
 fn tell(word: &[u8], answer: Answer, out: &mut [u8], used: usize) -> Played
     requires { ⌜ Buffer (now out) used × (length (now word) ≤ 5) ⌝ }
@@ -161,7 +141,7 @@ fn play(
             out,
             used,
         ),
-        Form::Step(count) => tell(b"step", step_on(device, image, count), out, used),
+        Form::Step(count) => tell(b"step", device.steps(image, count), out, used),
         Form::Cut(byte) => tell(b"cut", device.cut(image, byte), out, used),
         Form::Wake => tell(b"wake", device.wake(image), out, used),
         Form::Show => Played {

@@ -300,16 +300,24 @@ fn or(first: Line, other: Line) -> Line
     }
 }
 
-// The form that a line is.
+// The form that a line is. A form is looked for only where none before it was found.
 pub fn form_of(line: &[u8]) -> Line
     ensures { λ r. ⌜ r ≡ formOf (now (line .entry)) ⌝ }
 {
+    if let Line::Is(form) = plan(line) {
+        return Line::Is(form);
+    }
+    if let Line::Is(form) = write(line) {
+        return Line::Is(form);
+    }
+    if let Line::Is(form) = step(line) {
+        return Line::Is(form);
+    }
+    if let Line::Is(form) = cut(line) {
+        return Line::Is(form);
+    }
     let wake = bare(line, b"(wake", Form::Wake);
-    let show = bare(line, b"(show", Form::Show);
-    or(
-        plan(line),
-        or(write(line), or(step(line), or(cut(line), or(wake, show)))),
-    )
+    or(wake, bare(line, b"(show", Form::Show))
 }
 
 // The bytes of a list, into the front of out, as far as out reaches.

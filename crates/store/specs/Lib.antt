@@ -1,1 +1,2 @@
 pub mod Modelled
+pub mod Steps

@@ -16,6 +16,13 @@ use Rattle.model.specs.Calls as model
 abbrev pub modelled : Device → model.Device
 modelled d = record { plan = d .plan; payload = d .payload; phase = d .phase }
 
+-- a device by its parts, and an answer with it
+abbrev pub held : Plan → List ℕ → Phase → Device
+held p payload phase = record { plan = p; payload = payload; phase = phase }
+
+abbrev pub answer : ℕ → Plan → List ℕ → Phase → Answer
+answer n p payload phase = record { number = n; device = held p payload phase }
+
 -- start, format and cut leave a zero payload
 abbrev pub blanked : Plan → Phase → model.Device
 blanked p phase = record { plan = p; payload = model.zeroPayload; phase = phase }

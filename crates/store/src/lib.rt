@@ -9,7 +9,8 @@ ghost use lib.ListN.{length};
 ghost use Rattle.model.specs.Refusals.{isCold, isReady, _when_, first, deviceRow, readNumber};
 ghost use Rattle.model.specs.Calls.{jobOf, viewOf, view, padded, start, format, begin, step, wake, cut, read, numberIn, unitIn, Inspects};
 ghost use Rattle.layout.specs.Seen.{seen};
-ghost use Rattle.store.specs.Modelled.{modelled, blanked, unitNumber, Gives, Starts};
+ghost use Rattle.store.specs.Modelled.{modelled, blanked, held, answer, unitNumber, Gives, Starts};
+ghost use Rattle.store.specs.Steps.{steps};
 use layout::base_of;
 use layout::device_number;
 use layout::plan_number;
@@ -147,6 +148,71 @@ fn blank(plan: Plan, phase: Phase) -> Device
     }
 }
 
+// What steps come to: the number of the last, and the phase after it. Plan and payload stay.
+struct Advanced {
+    number: u16,
+    phase: Phase,
+}
+
+// A step, on the parts of a device.
+fn advance(plan: Plan, payload: &[u8], phase: Phase, image: &mut [u8]) -> Advanced
+    requires { ⌜ length (now payload) ≡ 256 ⌝ }
+    ensures { λ r. ⌜ Gives (answer (r .number) plan (now (payload .entry)) (r .phase)) (now (image .exit))
+        (step (modelled (held plan (now (payload .entry)) phase)) (now (image .entry))) ⌝ }
+{
+    let number = phase_number(plan, phase, image.len(), idle(phase));
+    if number != 0 {
+        return Advanced {
+            number: number,
+            phase: phase,
+        };
+    }
+    make_store(plan, payload, phase, &mut image[..]);
+    let next = phase_after(plan, phase, &image[..]);
+    Advanced {
+        number: 0,
+        phase: next,
+    }
+}
+
+// Up to `count` steps. A device that refusals 1 to 4 let pass stays so, so they are looked at once.
+fn advance_by(plan: Plan, payload: &[u8], from: Phase, image: &mut [u8], count: u16) -> Advanced
+    requires { ⌜ length (now payload) ≡ 256 ⌝ }
+    ensures { λ r. ⌜ Gives (answer (r .number) plan (now (payload .entry)) (r .phase)) (now (image .exit))
+        (steps count (modelled (held plan (now (payload .entry)) from)) (now (image .entry))) ⌝ }
+{
+    if count == 0 {
+        return Advanced {
+            number: 0,
+            phase: from,
+        };
+    }
+    let number = device_number(plan, from, image.len());
+    if number != 0 {
+        return Advanced {
+            number: number,
+            phase: from,
+        };
+    }
+    let mut reached = from;
+    let mut made: u16 = 0;
+    while made < count {
+        if idle(reached) {
+            return Advanced {
+                number: 5,
+                phase: reached,
+            };
+        }
+        make_store(plan, payload, reached, &mut image[..]);
+        reached = phase_after(plan, reached, &image[..]);
+        made = made + 1;
+    }
+    Advanced {
+        number: 0,
+        phase: reached,
+    }
+}
+
 impl Device {
     // A device for a plan: Cold, with a zero payload. Refused (1, 2): the device that is all zeros.
     pub fn start(plan: Plan) -> Answer
@@ -221,19 +287,33 @@ impl Device {
         ensures { λ r. ⌜ Gives r (now (image .exit)) (step (modelled self) (now (image .entry))) ⌝ }
     {
         let plan = self.plan;
-        let phase = self.phase;
-        let number = phase_number(plan, phase, image.len(), idle(phase));
-        if number != 0 {
-            return Answer {
-                number: number,
-                device: self,
-            };
-        }
         let payload = self.payload;
-        make_store(plan, &payload, phase, &mut image[..]);
-        let next = phase_after(plan, phase, &image[..]);
+        let phase = self.phase;
+        let after = advance(plan, &payload, phase, &mut image[..]);
+        let number = after.number;
+        let next = after.phase;
         Answer {
-            number: 0,
+            number: number,
+            device: Device {
+                plan: plan,
+                payload: payload,
+                phase: next,
+            },
+        }
+    }
+
+    // Up to `count` steps, ending early at a refusal: for a console that has current enough for more than one store.
+    pub fn steps(self, image: &mut [u8], count: u16) -> Answer
+        ensures { λ r. ⌜ Gives r (now (image .exit)) (steps count (modelled self) (now (image .entry))) ⌝ }
+    {
+        let plan = self.plan;
+        let payload = self.payload;
+        let phase = self.phase;
+        let after = advance_by(plan, &payload, phase, &mut image[..], count);
+        let number = after.number;
+        let next = after.phase;
+        Answer {
+            number: number,
             device: Device {
                 plan: plan,
                 payload: payload,

@@ -8,20 +8,18 @@ use Rattle.layout.proofs.Laws.{before-job}
 use Rattle.layout.proofs.device_number.Statement.{statement}
 use Rattle.layout.proofs.device_number.Tie as tie
 
-plan-number-requires : tie.Need-plan-number-requires
-plan-number-requires c κs = search needs
+measure-requires : tie.Need-measure-requires
+measure-requires c κs = search needs
 
 returns : tie.Need-returns
 unfolding startNumber
-returns c = c .before .plan-number .ensures ∙ sym (first-refused _ _ (λ e. c .if1 .taken (c .before .plan-number .ensures ∙ e)))
-
-base-of-requires : tie.Need-base-of-requires
-base-of-requires c κs = search needs
+returns c = let n = c .before .measure .ensures .0 in n ∙ sym (first-refused _ _ (λ e. c .if1 .taken (n ∙ e)))
 
 returns-2 : tie.Need-returns-2
-returns-2 c = let a = c .before .before .before .before .args in
-    sym (plan-passed (a .plan) _ (sym (c .before .before .before .plan-number .ensures) ∙ c .before .before .if1 .left)
-    ∙ first-stop 3 _ _ (lt-ltb (a .length) _ (rw (c .before .base-of .ensures .0) at (c .if2 .taken))))
+returns-2 c = let a = c .before .before .before .args in
+    let m = c .before .before .measure .ensures in
+    sym (plan-passed (a .plan) _ (sym (m .0) ∙ c .before .if1 .left)
+    ∙ first-stop 3 _ _ (lt-ltb (a .length) _ (rw (m .1 (c .before .if1 .left)) at (c .if2 .taken))))
 
 enum-told : tie.Need-enum-told
 enum-told c = search needs
@@ -64,35 +62,42 @@ job-number-requires-2 c κs = search needs
 
 returns-3 : tie.Need-returns-3
 unfolding badJob first
-returns-3 c = let a = c .before .before .before .before .before .before .args in
-    sym (before-job (a .plan) (a .phase) (a .length) _ _ (c .before .before .before .before .before .plan-number .ensures) (c .before .before .before .before .if1 .left) (c .before .before .before .base-of .ensures .0) (c .before .before .if2 .left)
+returns-3 c = let a = c .before .before .before .before .before .args in
+    let m = c .before .before .before .before .measure .ensures in
+    let z = c .before .before .before .if1 .left in
+    sym (before-job (a .plan) (a .phase) (a .length) _ _ (m .0) z (m .1 z) (c .before .before .if2 .left)
     ∙ rw (c .enum-told .given .1))
 
 returns-4 : tie.Need-returns-4
 unfolding badJob first
-returns-4 c = let a = c .before .before .before .before .before .before .args in
-    sym (before-job (a .plan) (a .phase) (a .length) _ _ (c .before .before .before .before .before .plan-number .ensures) (c .before .before .before .before .if1 .left) (c .before .before .before .base-of .ensures .0) (c .before .before .if2 .left)
+returns-4 c = let a = c .before .before .before .before .before .args in
+    let m = c .before .before .before .before .measure .ensures in
+    let z = c .before .before .before .if1 .left in
+    sym (before-job (a .plan) (a .phase) (a .length) _ _ (m .0) z (m .1 z) (c .before .before .if2 .left)
     ∙ rw (c .enum-told2 .given .1))
 
 returns-5 : tie.Need-returns-5
 unfolding badJob
-returns-5 c = let a = c .before .before .before .before .before .before .before .before .before .args in
-    c .job-number .ensures ∙ sym (before-job (a .plan) (a .phase) (a .length) _ _ (c .before .before .before .before .before .before .before .before .plan-number .ensures) (c .before .before .before .before .before .before .before .if1 .left) (c .before .before .before .before .before .before .base-of .ensures .0) (c .before .before .before .before .before .if2 .left)
+returns-5 c = let a = c .before .before .before .before .before .before .before .before .args in
+    let m = c .before .before .before .before .before .before .before .measure .ensures in
+    let z = c .before .before .before .before .before .before .if1 .left in
+    c .job-number .ensures ∙ sym (before-job (a .plan) (a .phase) (a .length) _ _ (m .0) z (m .1 z) (c .before .before .before .before .before .if2 .left)
     ∙ rw (c .before .before .before .phase .given .1, ← c .before .width-of .ensures))
 
 returns-6 : tie.Need-returns-6
 unfolding badJob
-returns-6 c = let a = c .before .before .before .before .before .before .before .before .before .args in
-    c .job-number2 .ensures ∙ sym (before-job (a .plan) (a .phase) (a .length) _ _ (c .before .before .before .before .before .before .before .before .plan-number .ensures) (c .before .before .before .before .before .before .before .if1 .left) (c .before .before .before .before .before .before .base-of .ensures .0) (c .before .before .before .before .before .if2 .left)
+returns-6 c = let a = c .before .before .before .before .before .before .before .before .args in
+    let m = c .before .before .before .before .before .before .before .measure .ensures in
+    let z = c .before .before .before .before .before .before .if1 .left in
+    c .job-number2 .ensures ∙ sym (before-job (a .plan) (a .phase) (a .length) _ _ (m .0) z (m .1 z) (c .before .before .before .before .before .if2 .left)
     ∙ rw (c .before .before .before .phase2 .given .1, ← c .before .width-of2 .ensures))
 
 pub device-number-spec : {M : Type 1} → statement M
 device-number-spec =
     tie.close
     (tie.spec
-    plan-number-requires
+    measure-requires
     returns
-    base-of-requires
     returns-2
     enum-told
     enum-told-2

@@ -29,8 +29,8 @@ enum-known-form-2 c = search needs
 slice-aggregate-tell-2 : tie.Need-slice-aggregate-tell-2
 slice-aggregate-tell-2 c = search needs
 
-step-on-requires : tie.Need-step-on-requires
-step-on-requires c κs = search needs
+steps-requires : tie.Need-steps-requires
+steps-requires c κs = search needs
 
 tell-requires-2 : tie.Need-tell-requires-2
 tell-requires-2 c κs = search needs
@@ -95,7 +95,7 @@ returns-3 : tie.Need-returns-3
 unfolding plays
 returns-3 c =
     let e = c .before .before .before .before .before .before .before .before .before .before .form2 .given .1 in
-    let g = c .before .before .before .before .before .before .step-on .ensures in
+    let g = c .before .before .before .before .before .before .steps .ensures in
     let t = c .before .before .tell2 .ensures in
     rw e (record { device = ap modelled (t .0) ∙ g .device; image = g .image; answered = rw (← g .number) (t .3); bad = t .1; fits = t .2 })
 
@@ -150,7 +150,7 @@ play-spec =
     tell-requires
     enum-known-form-2
     slice-aggregate-tell-2
-    step-on-requires
+    steps-requires
     tell-requires-2
     enum-known-form-3
     slice-aggregate-tell-3

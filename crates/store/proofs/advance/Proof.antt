@@ -1,0 +1,55 @@
+-- `store::advance` meets its contract: the store, and the phase after it.
+use mathlib.Core.Path.{refl, ap, _∙_}
+use mathlib.Core.List.{List}
+use Prim.Native.Nat.{ℕ}
+use denote.Ref.{now}
+use borrow.Author.Needs.{needs}
+use Rattle.store.specs.Modelled.{modelled, held}
+use Rattle.model.specs.Marker.{completed}
+use Rattle.model.specs.Calls as model
+use Rattle.store.proofs.Laws.{refused, accepted, step-number, live, live-stored}
+use Rattle.store.proofs.advance.Statement.{statement}
+use Rattle.store.proofs.advance.Tie as tie
+
+idle-requires : tie.Need-idle-requires
+idle-requires c κs = search needs
+
+phase-number-requires : tie.Need-phase-number-requires
+phase-number-requires c κs = search needs
+
+returns : tie.Need-returns
+unfolding model.step
+returns c = let a = c .before .before .before .before .before .args in
+    refused (held (a .plan) (now (a .payload)) (a .phase)) (now (a .image)) _ _ _
+    (step-number (a .plan) (a .phase) (now (a .image)) _ _ (c .before .phase-number .ensures) (c .before .before .idle .ensures)) (c .if1 .taken)
+
+make-store-requires : tie.Need-make-store-requires
+make-store-requires c κs = let b = c .before .before .before .before .before .before in
+    (live (b .args .plan) (b .args .phase) (now (b .args .image)) _ _ (c .before .before .phase-number .ensures) (c .before .if1 .left), b .pre)
+
+phase-after-requires : tie.Need-phase-after-requires
+phase-after-requires c κs = let a = c .before .before .before .before .before .before .before .before .before .before .args in
+    live-stored (a .plan) (a .phase) (now (a .image)) _ completed _ (c .before .before .before .make-store .ensures)
+    (live (a .plan) (a .phase) (now (a .image)) _ _ (c .before .before .before .before .before .before .phase-number .ensures) (c .before .before .before .before .before .if1 .left))
+
+same-length : tie.Need-same-length
+same-length c = search needs
+
+returns-2 : tie.Need-returns-2
+unfolding model.step model.imageAfter
+returns-2 c = let a = c .before .before .before .before .before .before .before .before .before .before .before .args in
+    let d = held (a .plan) (now (a .payload)) (a .phase) in
+    let made = c .before .before .before .before .make-store .ensures in
+    accepted _ _ d (now (a .image)) _ _ _
+    (step-number (a .plan) (a .phase) (now (a .image)) _ _ (c .before .before .before .before .before .before .before .phase-number .ensures) (c .before .before .before .before .before .before .before .before .idle .ensures)) (c .before .before .before .before .before .before .if1 .left)
+    (record {
+      number = refl;
+      device =
+          ap (λ phase. model.asStepped phase (modelled d)) (c .phase-after .ensures ∙ ap (λ (x : List ℕ). model.phaseAfter (d .plan) x (d .phase)) made);
+      image = made;
+    })
+
+pub advance-spec : {M : Type 1} → statement M
+advance-spec =
+    tie.close
+    (tie.spec idle-requires phase-number-requires returns make-store-requires phase-after-requires same-length returns-2)
