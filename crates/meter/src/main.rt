@@ -11,38 +11,27 @@ fn number_of(low: u8, high: u8) -> u16 {
     (high as u16) * 256 + (low as u16)
 }
 
-fn by_step(device: Device, image: &mut [u8], count: u16)
+// One store, by pass or by step.
+fn store_of(device: Device, image: &mut [u8], pass: bool) -> Device
     ensures { λ _. ⌜ length (now (image .exit)) ≡ length (now (image .entry)) ⌝ }
 {
-    let mut held = device;
-    let mut made: u16 = 0;
-    while made < count {
-        let answer = held.step(&mut image[..]);
-        held = answer.device;
-        made = made + 1;
+    if pass {
+        let answer = passed(device, &mut image[..]);
+        return answer.device;
     }
-}
-
-fn by_pass(device: Device, image: &mut [u8], count: u16)
-    ensures { λ _. ⌜ length (now (image .exit)) ≡ length (now (image .entry)) ⌝ }
-{
-    let mut held = device;
-    let mut made: u16 = 0;
-    while made < count {
-        let answer = passed(held, &mut image[..]);
-        held = answer.device;
-        made = made + 1;
-    }
+    let answer = device.step(&mut image[..]);
+    answer.device
 }
 
 fn stores_of(device: Device, image: &mut [u8], pass: bool, count: u16)
     ensures { λ _. ⌜ length (now (image .exit)) ≡ length (now (image .entry)) ⌝ }
 {
-    if pass {
-        by_pass(device, &mut image[..], count);
-        return;
+    let mut held = device;
+    let mut made: u16 = 0;
+    while made < count {
+        held = store_of(held, &mut image[..], pass);
+        made = made + 1;
     }
-    by_step(device, &mut image[..], count);
 }
 
 // Each round begins at the formatted device, so that only the stores differ between two counts.

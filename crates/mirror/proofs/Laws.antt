@@ -29,15 +29,16 @@ use Rattle.mirror.specs.Placed.{placed, Chosen, Comes, Live}
 -- what the code looked up of unit u, and the store that it chose
 pub placing : (p : Plan) (u w b l : ℕ) → w ≡ width p u → b ≡ base p u → l ≡ unitLength w
     → (o : Option Store) (c : Cell) (x a y : ℕ) → o ≡ some (store u c x) → a ≡ offset w c → y ≡ x → InUnit w c
-    → Chosen p u o (record { base = b; end = b + l; at = a; byte = y })
-placing p u w b l ew eb el o c x a y e ea ey h =
+    → (r : Placed) → r ≡ record { base = b; end = b + l; at = a; byte = y } → Chosen p u o r
+placing p u w b l ew eb el o c x a y e ea ey h r is =
     let end : b + l ≡ base p u + unitLength (width p u) = rw (eb, el, ew) in
     let at : a ≡ offset (width p u) c = rw ew at ea in
-    record {
+    rw is
+    (record {
       is = (λ i. record { base = eb i; end = end i; at = at i; byte = ey i }) ∙ ap (placed p) (sym e);
       inside = omega (arith, offset-bound w c h);
       ends = end;
-    }
+    })
 
 module _ (p : Plan) (payload : List ℕ) (u n w : ℕ) (is : w ≡ width p u) where
   abbrev nth : Option Store
@@ -197,7 +198,7 @@ chosen-comes p image u o o′ r h e l =
       long = omega (arith, h .ends);
     }
 
-pub none-comes : (p : Plan) (image : List ℕ) (o : Option Store) → o ≡ none
-    → Comes p image o (record { base = 0; end = 0; at = 0; byte = 0 })
-none-comes p image o e =
-    record { is = ap (placed p) (sym e); inside = λ z. absurd (z refl); long = omega arith }
+pub none-comes : (p : Plan) (image : List ℕ) (o : Option Store) → o ≡ none → (r : Placed)
+    → r ≡ record { base = 0; end = 0; at = 0; byte = 0 } → Comes p image o r
+none-comes p image o e r is =
+    rw is (record { is = ap (placed p) (sym e); inside = λ z. absurd (z refl); long = omega arith })

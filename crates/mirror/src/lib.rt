@@ -30,6 +30,17 @@ struct Placed {
     byte: u8,
 }
 
+fn place(base: usize, end: usize, at: usize, byte: u8) -> Placed
+    ensures { λ r. ⌜ r ≡ record { base = base; end = end; at = at; byte = byte } ⌝ }
+{
+    Placed {
+        base: base,
+        end: end,
+        at: at,
+        byte: byte,
+    }
+}
+
 // The next store of a write: marker A, copy A, marker B, copy B, marker OK.
 fn write_store(plan: Plan, payload: &[u8], unit: u16, made: u16) -> Placed
     requires { ⌜ (width plan unit ≤ 256) × (made < writeTotal (width plan unit)) × (length (now payload) ≡ 256) ⌝ }
@@ -41,43 +52,18 @@ fn write_store(plan: Plan, payload: &[u8], unit: u16, made: u16) -> Placed
     let w = width as usize;
     let n = made as usize;
     if n == 0 {
-        return Placed {
-            base: base,
-            end: end,
-            at: 0,
-            byte: Marker::A,
-        };
+        return place(base, end, 0, Marker::A);
     }
     if n <= w {
-        return Placed {
-            base: base,
-            end: end,
-            at: n,
-            byte: payload[n - 1],
-        };
+        return place(base, end, n, payload[n - 1]);
     }
     if n == w + 1 {
-        return Placed {
-            base: base,
-            end: end,
-            at: 0,
-            byte: Marker::B,
-        };
+        return place(base, end, 0, Marker::B);
     }
     if n <= 2 * w + 1 {
-        return Placed {
-            base: base,
-            end: end,
-            at: n - 1,
-            byte: payload[n - (w + 2)],
-        };
+        return place(base, end, n - 1, payload[n - (w + 2)]);
     }
-    Placed {
-        base: base,
-        end: end,
-        at: 0,
-        byte: Marker::OK,
-    }
+    place(base, end, 0, Marker::OK)
 }
 
 // The next store of a cleanup: a byte of the good copy as it is now, or marker OK.
@@ -91,26 +77,11 @@ fn cleanup_store(plan: Plan, image: &[u8], unit: u16, made: u16, direction: Dire
     let w = width as usize;
     let n = made as usize;
     if w <= n {
-        return Placed {
-            base: base,
-            end: end,
-            at: 0,
-            byte: Marker::OK,
-        };
+        return place(base, end, 0, Marker::OK);
     }
     match direction {
-        Direction::AToB => Placed {
-            base: base,
-            end: end,
-            at: 1 + w + n,
-            byte: image[base + (1 + n)],
-        },
-        Direction::BToA => Placed {
-            base: base,
-            end: end,
-            at: 1 + n,
-            byte: image[base + (1 + w + n)],
-        },
+        Direction::AToB => place(base, end, 1 + w + n, image[base + (1 + n)]),
+        Direction::BToA => place(base, end, 1 + n, image[base + (1 + w + n)]),
     }
 }
 
@@ -120,18 +91,8 @@ fn next_store(plan: Plan, payload: &[u8], phase: Phase, image: &[u8]) -> Placed
     ensures { λ r. ⌜ Comes plan (now (image .entry)) (next plan (now (payload .entry)) (now (image .entry)) phase) r ⌝ }
 {
     match phase {
-        Phase::Cold => Placed {
-            base: 0,
-            end: 0,
-            at: 0,
-            byte: 0,
-        },
-        Phase::Ready => Placed {
-            base: 0,
-            end: 0,
-            at: 0,
-            byte: 0,
-        },
+        Phase::Cold => place(0, 0, 0, 0),
+        Phase::Ready => place(0, 0, 0, 0),
         Phase::Writing { unit, made } => write_store(plan, payload, unit, made),
         Phase::Recovering {
             unit,

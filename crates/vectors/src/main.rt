@@ -11,7 +11,7 @@ fn play_file(name: &[u8]) {
     let count = io::read_full(file, &mut text);
     libc::close(file);
     let mut image = [0u8; 4104];
-    let mut out = [0u8; 65536];
+    let mut out = [0u8; 32768];
     play::run_all(&text[..count], &mut image, &mut out);
 }
 

@@ -9,8 +9,14 @@ use Rattle.mirror.proofs.next_store.Tie as tie
 enum-told : tie.Need-enum-told
 enum-told c = search needs
 
+place-requires : tie.Need-place-requires
+place-requires c κs = search needs
+
 enum-told-2 : tie.Need-enum-told-2
 enum-told-2 c = search needs
+
+place-requires-2 : tie.Need-place-requires-2
+place-requires-2 c κs = search needs
 
 enum-known-phase : tie.Need-enum-known-phase
 enum-known-phase c = search needs
@@ -30,11 +36,11 @@ cleanup-store-requires c κs = let a = c .before .before .before .before .before
 
 returns : tie.Need-returns
 unfolding next
-returns c = none-comes _ _ _ (rw (c .enum-told .given .1))
+returns c = none-comes _ _ _ (rw (c .before .enum-told .given .1)) _ (c .place .ensures)
 
 returns-2 : tie.Need-returns-2
 unfolding next
-returns-2 c = none-comes _ _ _ (rw (c .enum-told2 .given .1))
+returns-2 c = none-comes _ _ _ (rw (c .before .enum-told2 .given .1)) _ (c .place2 .ensures)
 
 returns-3 : tie.Need-returns-3
 unfolding next
@@ -53,7 +59,9 @@ next-store-spec =
     tie.close
     (tie.spec
     enum-told
+    place-requires
     enum-told-2
+    place-requires-2
     enum-known-phase
     write-store-requires
     enum-known-phase-2

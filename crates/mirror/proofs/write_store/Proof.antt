@@ -22,30 +22,39 @@ add-end c = search needs
 cast-w : tie.Need-cast-w
 cast-w c = search needs
 
+place-requires : tie.Need-place-requires
+place-requires c κs = search needs
+
 returns : tie.Need-returns
-returns c = let a = c .before .before .before .before .before .args in
-    placing (a .plan) (a .unit) _ _ _ (c .before .before .before .width-of .ensures) (c .before .before .base-of .ensures .0) (c .before .unit-length .ensures .0)
-    _ _ _ _ _ (write-A (a .plan) (now (a .payload)) (a .unit) (a .made) _ (c .before .before .before .width-of .ensures) (c .if1 .taken)) refl refl tt
+returns c = let a = c .before .before .before .before .before .before .args in
+    placing (a .plan) (a .unit) _ _ _ (c .before .before .before .before .width-of .ensures) (c .before .before .before .base-of .ensures .0) (c .before .before .unit-length .ensures .0)
+    _ _ _ _ _ (write-A (a .plan) (now (a .payload)) (a .unit) (a .made) _ (c .before .before .before .before .width-of .ensures) (c .before .if1 .taken)) refl refl tt _ (c .place .ensures)
 
-sub-t12 : tie.Need-sub-t12
-sub-t12 c = search needs
+sub-place : tie.Need-sub-place
+sub-place c = search needs
 
-shared-slice-read-t14 : tie.Need-shared-slice-read-t14
-shared-slice-read-t14 c = search needs
+shared-slice-read-place : tie.Need-shared-slice-read-place
+shared-slice-read-place c = search needs
+
+place-requires-2 : tie.Need-place-requires-2
+place-requires-2 c κs = search needs
 
 returns-2 : tie.Need-returns-2
-returns-2 c = let a = c .before .before .before .before .before .before .before .args in
-    placing (a .plan) (a .unit) _ _ _ (c .before .before .before .before .before .width-of .ensures) (c .before .before .before .before .base-of .ensures .0) (c .before .before .before .unit-length .ensures .0)
-    _ _ _ _ _ (write-to-A (a .plan) (now (a .payload)) (a .unit) (a .made) _ (c .before .before .before .before .before .width-of .ensures) (c .before .before .if1 .left) (c .before .if2 .taken))
-    (omega arith) refl (omega arith)
+returns-2 c = let a = c .before .before .before .before .before .before .before .before .args in
+    placing (a .plan) (a .unit) _ _ _ (c .before .before .before .before .before .before .width-of .ensures) (c .before .before .before .before .before .base-of .ensures .0) (c .before .before .before .before .unit-length .ensures .0)
+    _ _ _ _ _ (write-to-A (a .plan) (now (a .payload)) (a .unit) (a .made) _ (c .before .before .before .before .before .before .width-of .ensures) (c .before .before .before .if1 .left) (c .before .before .if2 .taken))
+    (omega arith) refl (omega arith) _ (c .place2 .ensures)
 
 add-if3 : tie.Need-add-if3
 add-if3 c = search needs
 
+place-requires-3 : tie.Need-place-requires-3
+place-requires-3 c κs = search needs
+
 returns-3 : tie.Need-returns-3
-returns-3 c = let a = c .before .before .before .before .before .before .before .args in
-    placing (a .plan) (a .unit) _ _ _ (c .before .before .before .before .before .width-of .ensures) (c .before .before .before .before .base-of .ensures .0) (c .before .before .before .unit-length .ensures .0)
-    _ _ _ _ _ (write-B (a .plan) (now (a .payload)) (a .unit) (a .made) _ (c .before .before .before .before .before .width-of .ensures) (c .if3 .taken)) refl refl tt
+returns-3 c = let a = c .before .before .before .before .before .before .before .before .args in
+    placing (a .plan) (a .unit) _ _ _ (c .before .before .before .before .before .before .width-of .ensures) (c .before .before .before .before .before .base-of .ensures .0) (c .before .before .before .before .unit-length .ensures .0)
+    _ _ _ _ _ (write-B (a .plan) (now (a .payload)) (a .unit) (a .made) _ (c .before .before .before .before .before .before .width-of .ensures) (c .before .if3 .taken)) refl refl tt _ (c .place3 .ensures)
 
 mul-if4 : tie.Need-mul-if4
 mul-if4 c = search needs
@@ -53,29 +62,35 @@ mul-if4 c = search needs
 add-if4 : tie.Need-add-if4
 add-if4 c = search needs
 
-sub-t16 : tie.Need-sub-t16
-sub-t16 c = search needs
+sub-place-2 : tie.Need-sub-place-2
+sub-place-2 c = search needs
 
-add-t17 : tie.Need-add-t17
-add-t17 c = search needs
+add-place : tie.Need-add-place
+add-place c = search needs
 
-sub-t18 : tie.Need-sub-t18
-sub-t18 c = search needs
+sub-place-3 : tie.Need-sub-place-3
+sub-place-3 c = search needs
 
-shared-slice-read-t20 : tie.Need-shared-slice-read-t20
-shared-slice-read-t20 c = search needs
+shared-slice-read-place-2 : tie.Need-shared-slice-read-place-2
+shared-slice-read-place-2 c = search needs
+
+place-requires-4 : tie.Need-place-requires-4
+place-requires-4 c κs = search needs
 
 returns-4 : tie.Need-returns-4
-returns-4 c = let a = c .before .before .before .before .before .before .before .before .before .args in
-    placing (a .plan) (a .unit) _ _ _ (c .before .before .before .before .before .before .before .width-of .ensures) (c .before .before .before .before .before .before .base-of .ensures .0) (c .before .before .before .before .before .unit-length .ensures .0)
-    _ _ _ _ _ (write-to-B (a .plan) (now (a .payload)) (a .unit) (a .made) _ (c .before .before .before .before .before .before .before .width-of .ensures) (omega arith) (c .before .if4 .taken))
-    (omega arith) refl (omega arith)
+returns-4 c = let a = c .before .before .before .before .before .before .before .before .before .before .args in
+    placing (a .plan) (a .unit) _ _ _ (c .before .before .before .before .before .before .before .before .width-of .ensures) (c .before .before .before .before .before .before .before .base-of .ensures .0) (c .before .before .before .before .before .before .unit-length .ensures .0)
+    _ _ _ _ _ (write-to-B (a .plan) (now (a .payload)) (a .unit) (a .made) _ (c .before .before .before .before .before .before .before .before .width-of .ensures) (omega arith) (c .before .before .if4 .taken))
+    (omega arith) refl (omega arith) _ (c .place4 .ensures)
+
+place-requires-5 : tie.Need-place-requires-5
+place-requires-5 c κs = search needs
 
 returns-5 : tie.Need-returns-5
-returns-5 c = let a = c .before .before .before .before .before .before .before .before .args in
-    placing (a .plan) (a .unit) _ _ _ (c .before .before .before .before .before .before .width-of .ensures) (c .before .before .before .before .before .base-of .ensures .0) (c .before .before .before .before .unit-length .ensures .0)
-    _ _ _ _ _ (write-OK (a .plan) (now (a .payload)) (a .unit) (a .made) _ (c .before .before .before .before .before .before .width-of .ensures) (c .if4 .left) (omega (arith, c .before .before .before .before .before .before .before .before .pre .1, c .before .before .before .before .before .before .width-of .ensures)))
-    refl refl tt
+returns-5 c = let a = c .before .before .before .before .before .before .before .before .before .args in
+    placing (a .plan) (a .unit) _ _ _ (c .before .before .before .before .before .before .before .width-of .ensures) (c .before .before .before .before .before .before .base-of .ensures .0) (c .before .before .before .before .before .unit-length .ensures .0)
+    _ _ _ _ _ (write-OK (a .plan) (now (a .payload)) (a .unit) (a .made) _ (c .before .before .before .before .before .before .before .width-of .ensures) (c .before .if4 .left) (omega (arith, c .before .before .before .before .before .before .before .before .before .pre .1, c .before .before .before .before .before .before .before .width-of .ensures)))
+    refl refl tt _ (c .place5 .ensures)
 
 pub write-store-spec : {M : Type 1} → statement M
 write-store-spec =
@@ -86,17 +101,22 @@ write-store-spec =
     unit-length-requires
     add-end
     cast-w
+    place-requires
     returns
-    sub-t12
-    shared-slice-read-t14
+    sub-place
+    shared-slice-read-place
+    place-requires-2
     returns-2
     add-if3
+    place-requires-3
     returns-3
     mul-if4
     add-if4
-    sub-t16
-    add-t17
-    sub-t18
-    shared-slice-read-t20
+    sub-place-2
+    add-place
+    sub-place-3
+    shared-slice-read-place-2
+    place-requires-4
     returns-4
+    place-requires-5
     returns-5)
