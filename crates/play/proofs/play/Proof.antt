@@ -3,8 +3,8 @@ use mathlib.Core.Path.{refl, _∙_, ap}
 use borrow.Author.Needs.{needs}
 use Rattle.script.specs.declared.Line.the-variants.{Is}
 use Rattle.script.specs.Counts.{write-count}
-use Rattle.store.specs.Modelled.{modelled}
 use Rattle.play.specs.Plays.{plays}
+use Rattle.play.proofs.Told.{told}
 use Rattle.play.proofs.play.Statement.{statement}
 use Rattle.play.proofs.play.Tie as tie
 
@@ -83,7 +83,7 @@ returns-2 c =
     let e = c .before .before .before .before .before .before .before .before .form .given .1 in
     let g = c .before .before .before .before .write .ensures in
     let t = c .before .before .tell .ensures in
-    rw e (record { device = ap modelled (t .0) ∙ g .device; image = g .image; answered = rw (← g .number) (t .3); bad = t .1; fits = t .2 })
+    rw e (told _ _ _ _ _ _ _ _ _ refl refl g t)
 
 same-length-3 : tie.Need-same-length-3
 same-length-3 c = search needs
@@ -97,7 +97,7 @@ returns-3 c =
     let e = c .before .before .before .before .before .before .before .before .before .before .form2 .given .1 in
     let g = c .before .before .before .before .before .before .steps .ensures in
     let t = c .before .before .tell2 .ensures in
-    rw e (record { device = ap modelled (t .0) ∙ g .device; image = g .image; answered = rw (← g .number) (t .3); bad = t .1; fits = t .2 })
+    rw e (told _ _ _ _ _ _ _ _ _ refl refl g t)
 
 same-length-5 : tie.Need-same-length-5
 same-length-5 c = search needs
@@ -111,7 +111,7 @@ returns-4 c =
     let e = c .before .before .before .before .before .before .before .before .before .before .form3 .given .1 in
     let g = c .before .before .before .before .before .before .cut .ensures in
     let t = c .before .before .tell3 .ensures in
-    rw e (record { device = ap modelled (t .0) ∙ g .device; image = g .image; answered = rw (← g .number) (t .3); bad = t .1; fits = t .2 })
+    rw e (told _ _ _ _ _ _ _ _ _ refl refl g t)
 
 same-length-7 : tie.Need-same-length-7
 same-length-7 c = search needs
@@ -125,7 +125,7 @@ returns-5 c =
     let e = c .before .before .before .before .before .before .before .enum-told2 .given .1 in
     let g = c .before .before .before .before .wake .ensures in
     let t = c .before .before .tell4 .ensures in
-    rw e (record { device = ap modelled (t .0) ∙ g .device; image = g .image; answered = rw (← g .number) (t .3); bad = t .1; fits = t .2 })
+    rw e (told _ _ _ _ _ _ _ _ _ refl refl g t)
 
 same-length-9 : tie.Need-same-length-9
 same-length-9 c = search needs
