@@ -7,7 +7,7 @@ use Rattle.script.specs.declared.Kind.the-variants.{Byte}
 use Rattle.script.specs.declared.Line.{Line}
 use Rattle.script.specs.declared.Line.the-variants.{Is, Bad}
 use Rattle.script.specs.Ascii.{ascii}
-use Rattle.script.specs.Line.{eatAt, wordAt, digitOf, digitAt, extendAt, hexAt, moreAt, atMost, numberAt, itemAt, itemsAt, listAt, closedAt, planOf, writeOf, stepOf, cutOf, bareOf, _or_, formOf}
+use Rattle.script.specs.Line.{eatAt, wordAt, digitOf, digitAt, extendAt, hexAt, moreAt, atMost, entryAt, numberAt, itemAt, itemsAt, listAt, closedAt, planOf, writeOf, stepOf, cutOf, bareOf, _or_, formOf}
 use Rattle.script.specs.Items.{valuesAt, widthsAt}
 
 -- so many bytes f7, each with a space after it
@@ -71,12 +71,12 @@ rows =
     ∷ []
 
 pub lines : map (λ (row : List ℕ × Line). formOf (row .0)) rows ≡ map (λ (row : List ℕ × Line). row .1) rows
-unfolding rows formOf _or_ bareOf cutOf stepOf writeOf planOf closedAt listAt itemsAt itemAt numberAt atMost moreAt hexAt extendAt digitAt digitOf wordAt eatAt
+unfolding rows formOf _or_ bareOf cutOf stepOf writeOf planOf closedAt listAt itemsAt itemAt entryAt numberAt atMost moreAt hexAt extendAt digitAt digitOf wordAt eatAt
 lines = refl
 
 -- the values of a list, bytes and widths
 pub values : (valuesAt Byte (ascii "(write 0 (0a ff))") 10 2 ≡ 10 ∷ 255 ∷ [])
     × (widthsAt (ascii "(plan (2 1))") 7 2 ≡ 2 ∷ 1 ∷ 0 ∷ 0 ∷ 0 ∷ 0 ∷ 0 ∷ 0 ∷ [])
     × (widthsAt (ascii "(plan (1 2 3 4 5 6 7 8 9))") 7 9 ≡ 1 ∷ 2 ∷ 3 ∷ 4 ∷ 5 ∷ 6 ∷ 7 ∷ 8 ∷ [])
-unfolding valuesAt widthsAt itemAt numberAt atMost moreAt hexAt extendAt digitAt digitOf eatAt
+unfolding valuesAt widthsAt itemAt entryAt numberAt atMost moreAt hexAt extendAt digitAt digitOf eatAt
 values = (refl, refl, refl)

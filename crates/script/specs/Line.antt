@@ -11,7 +11,7 @@ use borrow.Author.Tests.{le-ltb, ne-eqb}
 use Prim.Native.Char.{code}
 use Rattle.script.specs.Ascii.{ascii}
 use Rattle.script.specs.declared.Kind.{Kind}
-use Rattle.script.specs.declared.Kind.the-variants.{Byte, Number}
+use Rattle.script.specs.declared.Kind.the-variants.{Byte, Number, Entry}
 use Rattle.script.specs.declared.Item.{Item}
 use Rattle.script.specs.declared.Items.{Items}
 use Rattle.script.specs.declared.Form.{Form}
@@ -64,14 +64,19 @@ moreAt line i = cond (eqb (i .value) 0 || eqb (extendAt line 10 i .next) lost) i
 unfoldable pub atMost : ℕ → Item → Item
 atMost most i = cond (leb (i .value) most) i (item 0 lost)
 
--- "W and U are 0 to 65535. W, U, N are decimal": a digit, and up to four more
-unfoldable pub numberAt : List ℕ → ℕ → Item
-numberAt line at = atMost 65535 (moreAt line (moreAt line (moreAt line (moreAt line (extendAt line 10 (item 0 at))))))
+-- "entries of 1 to 5 decimal digits without leading zeros" (a curve's): a digit, and up to four more
+unfoldable pub entryAt : List ℕ → ℕ → Item
+entryAt line at = moreAt line (moreAt line (moreAt line (moreAt line (extendAt line 10 (item 0 at)))))
 
--- what a list is made of: HH or W
+-- "W and U are 0 to 65535. W, U, N are decimal"
+unfoldable pub numberAt : List ℕ → ℕ → Item
+numberAt line at = atMost 65535 (entryAt line at)
+
+-- what a list is made of: HH, W or a curve's entries
 unfoldable pub itemAt : Kind → List ℕ → ℕ → Item
 itemAt Byte line at = hexAt line at
 itemAt Number line at = numberAt line at
+itemAt Entry line at = entryAt line at
 
 -- how many items a list has, and the place past its `)`
 abbrev pub items : ℕ → ℕ → Items

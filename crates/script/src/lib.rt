@@ -4,13 +4,13 @@ ghost use mathlib.Core.Path.{_≡_};
 ghost use Prim.Native.Nat.{_+_, _-_, _*_, _<_, _≤_};
 ghost use lib.ListN.{length};
 ghost use lib.Seq.{sets};
-ghost use Rattle.script.specs.Line.{eatAt, wordAt, digitOf, digitAt, extendAt, hexAt, moreAt, atMost, numberAt};
+ghost use Rattle.script.specs.Line.{eatAt, wordAt, digitOf, digitAt, extendAt, hexAt, moreAt, atMost, entryAt, numberAt};
 ghost use Rattle.script.specs.Line.{itemAt, itemsAt, listAt, closedAt, planOf, writeOf, stepOf, cutOf, bareOf, _or_, formOf};
 ghost use Rattle.script.specs.Items.{valuesAt, widthsAt};
 ghost use Rattle.script.specs.declared.Kind.the-variants.{Byte};
 
 // A script has at most 65,536 bytes, so no line of it has this place.
-const LOST: usize = 65537;
+pub const LOST: usize = 65537;
 
 // A form. Of a list it keeps where in the line the items begin, and how many there are.
 pub enum Form {
@@ -32,22 +32,23 @@ pub enum Line {
 pub enum Kind {
     Byte,
     Number,
+    Entry,
 }
 
 // A value that was read, and the place past it.
-struct Item {
-    value: usize,
-    next: usize,
+pub struct Item {
+    pub value: usize,
+    pub next: usize,
 }
 
 // How many items a list has, and the place past its bracket.
-struct Items {
-    count: usize,
-    next: usize,
+pub struct Items {
+    pub count: usize,
+    pub next: usize,
 }
 
 // Past one byte.
-fn eat(line: &[u8], at: usize, byte: u8) -> usize
+pub fn eat(line: &[u8], at: usize, byte: u8) -> usize
     ensures { λ r. ⌜ r ≡ eatAt (now (line .entry)) at byte ⌝ }
 {
     if at < line.len() {
@@ -58,7 +59,7 @@ fn eat(line: &[u8], at: usize, byte: u8) -> usize
 }
 
 // Past a word.
-fn word(line: &[u8], at: usize, word: &[u8]) -> usize
+pub fn word(line: &[u8], at: usize, word: &[u8]) -> usize
     ensures { λ r. ⌜ r ≡ wordAt (now (line .entry)) at (now (word .entry)) ⌝ }
 {
     let mut p = at;
@@ -153,13 +154,20 @@ fn at_most(most: usize, item: Item) -> Item
     }
 }
 
+// A decimal number of one to five digits.
+pub fn entry(line: &[u8], at: usize) -> Item
+    ensures { λ r. ⌜ (r ≡ entryAt (now (line .entry)) at) × (r .value ≤ 99999) ⌝ }
+{
+    let none = Item { value: 0, next: at };
+    let first = extend(line, 10, none);
+    more(line, more(line, more(line, more(line, first))))
+}
+
 // A decimal number, 0 to 65535, so of at most five digits.
 fn number(line: &[u8], at: usize) -> Item
     ensures { λ r. ⌜ (r ≡ numberAt (now (line .entry)) at) × (r .value ≤ 65535) ⌝ }
 {
-    let none = Item { value: 0, next: at };
-    let first = extend(line, 10, none);
-    at_most(65535, more(line, more(line, more(line, more(line, first)))))
+    at_most(65535, entry(line, at))
 }
 
 // What a list is made of, at a place.
@@ -169,11 +177,12 @@ fn item_at(kind: Kind, line: &[u8], at: usize) -> Item
     match kind {
         Kind::Byte => hex(line, at),
         Kind::Number => number(line, at),
+        Kind::Entry => entry(line, at),
     }
 }
 
 // One to `most` items with single spaces between, and the bracket that ends them.
-fn items_at(kind: Kind, line: &[u8], at: usize, most: usize) -> Items
+pub fn items_at(kind: Kind, line: &[u8], at: usize, most: usize) -> Items
     ensures { λ r. ⌜ r ≡ itemsAt kind (now (line .entry)) at most 0 ⌝ }
 {
     let mut p = at;

@@ -1,24 +1,12 @@
--- `script::number` meets its contract: the calls nest as the definition does; each bound follows from the one before.
+-- `script::number` meets its contract: the calls nest as the definition does.
 use native.Mathlib.Omega.{arith}
 use borrow.Author.Needs.{needs}
 use Rattle.script.specs.Line.{numberAt}
 use Rattle.script.proofs.number.Statement.{statement}
 use Rattle.script.proofs.number.Tie as tie
 
-extend-requires : tie.Need-extend-requires
-extend-requires c κs = search needs
-
-more-requires : tie.Need-more-requires
-more-requires c κs = search needs
-
-more-requires-2 : tie.Need-more-requires-2
-more-requires-2 c κs = search needs
-
-more-requires-3 : tie.Need-more-requires-3
-more-requires-3 c κs = search needs
-
-more-requires-4 : tie.Need-more-requires-4
-more-requires-4 c κs = search needs
+entry-requires : tie.Need-entry-requires
+entry-requires c κs = search needs
 
 at-most-requires : tie.Need-at-most-requires
 at-most-requires c κs = search needs
@@ -28,13 +16,4 @@ unfolding numberAt
 returns c = (cc, omega arith)
 
 pub number-spec : {M : Type 1} → statement M
-number-spec =
-    tie.close
-    (tie.spec
-    extend-requires
-    more-requires
-    more-requires-2
-    more-requires-3
-    more-requires-4
-    at-most-requires
-    returns)
+number-spec = tie.close (tie.spec entry-requires at-most-requires returns)
