@@ -1,3 +1,4 @@
 pub mod Accepted
 pub mod Table
 pub mod Drives
+pub mod Over

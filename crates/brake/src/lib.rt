@@ -3,6 +3,7 @@
 ghost use mathlib.Core.Path.{_≡_};
 ghost use Prim.Native.Nat.{_+_, _*_, _-_, _/_, _≤_, _<_};
 ghost use Rattle.model.specs.Drive.{driveNumber, drive};
+ghost use Rattle.brake.specs.Over.{driveOverNumber, driveOver};
 
 // "The brake table has 1,280 entries, 20 levels by 64 bins, in the code": entry 64 × (level - 1) + bin.
 const DRIVES: [u16; 1280] = [
@@ -1303,23 +1304,57 @@ fn place(level: u16, rate: u16) -> usize
 }
 
 // "9 level 0 or above 20; 10 rate above 255": the lowest number that applies is given, so the level is looked at first.
+fn refusal(level: u16, rate: u16) -> u16
+    ensures { λ r. ⌜ r ≡ driveNumber level rate ⌝ }
+{
+    if level == 0 || 20 < level {
+        return 9;
+    }
+    if 255 < rate {
+        return 10;
+    }
+    0
+}
+
+// The drive over the constant table.
 pub fn drive(level: u16, rate: u16) -> Driven
     ensures { λ r. ⌜ (r .number ≡ driveNumber level rate) × (r .drive ≡ drive level rate) ⌝ }
 {
-    if level == 0 || 20 < level {
+    let number = refusal(level, rate);
+    if number != 0 {
         return Driven {
-            number: 9,
-            drive: 0,
-        };
-    }
-    if 255 < rate {
-        return Driven {
-            number: 10,
+            number: number,
             drive: 0,
         };
     }
     let at = place(level, rate);
     let entry = DRIVES[at];
+    Driven {
+        number: 0,
+        drive: entry,
+    }
+}
+
+// The drive over a lent table of 1,280 entries, such as a bike maker's curve. Refused: 11, 9, 10, in this order.
+pub fn drive_over(table: &[u16], level: u16, rate: u16) -> Driven
+    ensures { λ r. ⌜ (r .number ≡ driveOverNumber (now (table .entry)) level rate)
+        × (r .drive ≡ driveOver (now (table .entry)) level rate) ⌝ }
+{
+    if table.len() != 1280 {
+        return Driven {
+            number: 11,
+            drive: 0,
+        };
+    }
+    let number = refusal(level, rate);
+    if number != 0 {
+        return Driven {
+            number: number,
+            drive: 0,
+        };
+    }
+    let index = place(level, rate);
+    let entry = table[index];
     Driven {
         number: 0,
         drive: entry,
