@@ -1,0 +1,74 @@
+-- A line after another: its number by the code's tests, and the lines that are left.
+use Prim.Native.Nat.{ℕ, zero, suc, _+_, _-_, _≤_, _<_}
+use mathlib.Core.Path.{_≡_, refl, ap, sym, _∙_}
+use mathlib.Core.Bool.{Bool, true, false, cond}
+use mathlib.Core.List.{List, [], _∷_, _++_}
+use native.Mathlib.Omega.{arith}
+use lib.ListN.{length, take, drop}
+use borrow.Author.Tests.{eq-eqb, ne-eqb, lt-ltb, le-ltb}
+use Rattle.script.specs.declared.Kind.the-variants.{Entry}
+use Rattle.script.specs.Line.{lost}
+use Rattle.script.specs.Items.{valuesAt}
+use Rattle.reader.specs.Read.{lineEnd, lineAt}
+use Rattle.curve.specs.Curve.{rowAt, rowOf, inRule, lowerOf, lineNumber, Curve, curve, linesFrom}
+
+module _ (i : ℕ) (text : List ℕ) (at : ℕ) (done : List ℕ) where
+  pub line-missing : length text ≤ at → 12 ≡ lineNumber i text at done
+  unfolding lineNumber
+  line-missing h = rw (le-ltb at (length text) h)
+
+  -- the line as the code cut it out, and where it found the entries
+  module _ (inside : at < length text) (end : ℕ) (ee : end ≡ lineEnd text at) (line : List ℕ)
+      (el : line ≡ take (end - at) (drop at text)) (from : ℕ) (ef : from ≡ rowAt (i + 1) line) where
+    is-line : line ≡ lineAt text at
+    unfolding lineAt
+    is-line = el ∙ ap (λ (e : ℕ). take (e - at) (drop at text)) ee
+
+    is-from : from ≡ rowAt (i + 1) (lineAt text at)
+    is-from = ef ∙ ap (rowAt (i + 1)) is-line
+
+    pub is-row : valuesAt Entry line from 64 ≡ rowOf (i + 1) (lineAt text at)
+    is-row = rw (is-from, is-line)
+
+    pub line-formless : from ≡ lost → 12 ≡ lineNumber i text at done
+    unfolding lineNumber
+    line-formless h = rw (lt-ltb at (length text) inside, eq-eqb (rowAt (i + 1) (lineAt text at)) lost (sym is-from ∙ h))
+
+    judged : (good : Bool) → good ≡ inRule 0 (lowerOf done) (valuesAt Entry line from 64) → ¬ (from ≡ lost)
+        → lineNumber i text at done ≡ cond good 0 13
+    unfolding lineNumber
+    judged good e h =
+        rw (lt-ltb at (length text) inside, ne-eqb (rowAt (i + 1) (lineAt text at)) lost (λ q. h (is-from ∙ q)), ← is-row, ← e)
+
+    module _ (good : Bool) (e : good ≡ inRule 0 (lowerOf done) (valuesAt Entry line from 64)) (h : ¬ (from ≡ lost)) where
+      pub line-good : good ≡ true → 0 ≡ lineNumber i text at done
+      line-good g = sym (judged good e h ∙ rw g)
+
+      pub line-bad : good ≡ false → 13 ≡ lineNumber i text at done
+      line-bad g = sym (judged good e h ∙ rw g)
+
+  -- the lines that are left
+  module _ (more : i < 20) where
+    pub lines-go : lineNumber i text at done ≡ 0
+        → linesFrom (20 - i) text at done ≡ linesFrom (20 - (i + 1)) text (lineEnd text at + 1) (done ++ rowOf (i + 1) (lineAt text at))
+    unfolding linesFrom
+    lines-go e =
+        let n : 20 - i ≡ suc (20 - (i + 1)) = omega arith in
+        let l : 19 - (20 - (i + 1)) ≡ i = omega arith in
+        rw (n, l) (simp (eq-eqb (lineNumber i text at done) 0 e))
+
+    pub lines-stop : ¬ (lineNumber i text at done ≡ 0) → linesFrom (20 - i) text at done ≡ curve (lineNumber i text at done) []
+    unfolding linesFrom
+    lines-stop h =
+        let n : 20 - i ≡ suc (20 - (i + 1)) = omega arith in
+        let l : 19 - (20 - (i + 1)) ≡ i = omega arith in
+        rw (n, l) (simp (ne-eqb (lineNumber i text at done) 0 h))
+
+  module _ (none : 20 ≤ i) where
+    pub line-over : at < length text → linesFrom (20 - i) text at done ≡ curve 12 []
+    unfolding linesFrom
+    line-over h = let n : 20 - i ≡ 0 = omega arith in rw (n, lt-ltb at (length text) h)
+
+    pub lines-end : length text ≤ at → linesFrom (20 - i) text at done ≡ curve 0 done
+    unfolding linesFrom
+    lines-end h = let n : 20 - i ≡ 0 = omega arith in rw (n, le-ltb at (length text) h)

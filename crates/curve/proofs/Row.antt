@@ -1,0 +1,41 @@
+-- A line's form, by the code's own tests on what it read.
+use Prim.Native.Nat.{ℕ, _≤_, _<_}
+use Prim.Native.Char.{code}
+use mathlib.Core.Path.{_≡_, refl, sym, _∙_}
+use mathlib.Core.Bool.{Bool, true, false, cond, _&&_}
+use mathlib.Core.List.{List}
+use lib.Dec.{eqb, ltb}
+use lib.ListN.{length}
+use borrow.Author.Tests.{eq-eqb, ne-eqb, lt-ltb, le-ltb}
+use Rattle.script.specs.Ascii.{ascii}
+use Rattle.script.specs.declared.Kind.the-variants.{Entry}
+use Rattle.script.specs.declared.Item.{Item}
+use Rattle.script.specs.declared.Items.{Items}
+use Rattle.script.specs.Line.{lost, eatAt, wordAt, entryAt, itemsAt}
+use Rattle.curve.specs.Curve.{rowAt}
+
+pub row-long : (l : ℕ) (line : List ℕ) → lost ≤ length line → lost ≡ rowAt l line
+unfolding rowAt
+row-long l line h = rw (le-ltb (length line) lost h)
+
+-- what the code read of a line that is short enough
+module _ (l : ℕ) (line : List ℕ) (fits : length line < lost) (level : Item) (at : ℕ) (row : Items) (end : ℕ)
+    (el : level ≡ entryAt line (wordAt line 0 (ascii "(level "))) (ea : at ≡ wordAt line (level .next) (ascii " ("))
+    (er : row ≡ itemsAt Entry line at 64 0) (ee : end ≡ eatAt line (row .next) (code ")")) where
+  judged : rowAt l line ≡ cond (eqb (level .value) l && eqb (row .count) 64 && eqb end (length line)) at lost
+  unfolding rowAt
+  judged = rw (ee, er, ea, el, lt-ltb (length line) lost fits)
+
+  pub other-level : ¬ (level .value ≡ l) → lost ≡ rowAt l line
+  other-level h = sym (judged ∙ rw (ne-eqb (level .value) l h))
+
+  module _ (is : level .value ≡ l) where
+    pub other-count : ¬ (row .count ≡ 64) → lost ≡ rowAt l line
+    other-count h = sym (judged ∙ rw (eq-eqb (level .value) l is, ne-eqb (row .count) 64 h))
+
+    module _ (full : row .count ≡ 64) where
+      pub other-end : ¬ (end ≡ length line) → lost ≡ rowAt l line
+      other-end h = sym (judged ∙ rw (eq-eqb (level .value) l is, eq-eqb (row .count) 64 full, ne-eqb end (length line) h))
+
+      pub of-form : end ≡ length line → at ≡ rowAt l line
+      of-form e = sym (judged ∙ rw (eq-eqb (level .value) l is, eq-eqb (row .count) 64 full, eq-eqb end (length line) e))

@@ -1,0 +1,62 @@
+-- `curve::load` meets its contract: the room first, then the text, and the table last.
+use borrow.Author.Needs.{needs}
+use native.Mathlib.Omega.{arith}
+use denote.Ref.{now}
+use mathlib.Core.Path.{refl, sym, _∙_}
+use lib.ListN.{length}
+use Rattle.curve.proofs.Loaded.{wrong-table, short-scratch, bad-text, good-text}
+use Rattle.curve.proofs.load.Statement.{statement}
+use Rattle.curve.proofs.load.Tie as tie
+
+returns : tie.Need-returns
+returns c = let a = c .before .before .before .before .args in
+    let w = wrong-table (now (a .text)) (now (a .table)) (length (now (a .scratch))) (c .if1 .taken) in
+    (w .0, w .1, refl, refl)
+
+returns-2 : tie.Need-returns-2
+returns-2 c = let a = c .before .before .before .before .before .args in
+    let w = short-scratch (now (a .text)) (now (a .table)) (length (now (a .scratch))) (c .before .if1 .left) (c .if2 .taken) in
+    (w .0, w .1, refl, refl)
+
+read-lines-requires : tie.Need-read-lines-requires
+read-lines-requires c κs = search needs
+
+same-length : tie.Need-same-length
+same-length c = search needs
+
+returns-3 : tie.Need-returns-3
+returns-3 c = let a = c .before .before .before .before .before .before .before .before .before .before .args in
+    let r = c .before .before .before .read-lines .ensures in
+    let w = bad-text (now (a .text)) (now (a .table)) (length (now (a .scratch))) (c .before .before .before .before .before .before .if1 .left) (c .before .before .before .before .before .if2 .left) _ (r .0) (c .if3 .taken) in
+    (w .0, w .1, refl, r .2)
+
+copy-requires : tie.Need-copy-requires
+copy-requires c κs = (c .before .before .before .before .before .before .before .before .if1 .left, omega (arith, c .before .before .before .before .before .read-lines .ensures .2, c .before .before .before .before .before .before .before .if2 .left))
+
+same-length-2 : tie.Need-same-length-2
+same-length-2 c = search needs
+
+same-length-3 : tie.Need-same-length-3
+same-length-3 c = search needs
+
+returns-4 : tie.Need-returns-4
+returns-4 c = let a = c .before .before .before .before .before .before .before .before .before .before .before .before .before .before .before .args in
+    let r = c .before .before .before .before .before .before .before .before .read-lines .ensures in
+    let fits = c .before .before .before .before .before .before .before .before .before .before .before .if1 .left in
+    let copied = c .before .before .copy .ensures in
+    let w = good-text (now (a .text)) (now (a .table)) (length (now (a .scratch))) fits (c .before .before .before .before .before .before .before .before .before .before .if2 .left) _ _ (r .0) (c .before .before .before .before .before .if3 .left) (copied .0 ∙ r .1 (c .before .before .before .before .before .if3 .left)) in
+    (w .0, w .1, copied .1 ∙ sym fits, r .2)
+
+pub load-spec : {M : Type 1} → statement M
+load-spec =
+    tie.close
+    (tie.spec
+    returns
+    returns-2
+    read-lines-requires
+    same-length
+    returns-3
+    copy-requires
+    same-length-2
+    same-length-3
+    returns-4)

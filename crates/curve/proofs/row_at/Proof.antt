@@ -1,0 +1,69 @@
+-- `curve::row_at` meets its contract: each test rules the form out, and where none does the entries begin.
+use borrow.Author.Needs.{needs}
+use denote.Ref.{now}
+use mathlib.Core.Path.{ap, _∙_}
+use Rattle.script.specs.Line.{entryAt}
+use Rattle.curve.proofs.Row.{row-long, other-level, other-count, other-end, of-form}
+use Rattle.curve.proofs.row_at.Statement.{statement}
+use Rattle.curve.proofs.row_at.Tie as tie
+
+returns : tie.Need-returns
+returns c = row-long _ _ (c .if1 .taken)
+
+slice-aggregate-word : tie.Need-slice-aggregate-word
+slice-aggregate-word c = search needs
+
+word-requires : tie.Need-word-requires
+word-requires c κs = search needs
+
+entry-requires : tie.Need-entry-requires
+entry-requires c κs = search needs
+
+slice-aggregate-word-2 : tie.Need-slice-aggregate-word-2
+slice-aggregate-word-2 c = search needs
+
+word-requires-2 : tie.Need-word-requires-2
+word-requires-2 c κs = search needs
+
+items-at-requires : tie.Need-items-at-requires
+items-at-requires c κs = search needs
+
+eat-requires : tie.Need-eat-requires
+eat-requires c κs = search needs
+
+returns-2 : tie.Need-returns-2
+returns-2 c = let a = c .before .before .before .before .before .before .before .before .before .before .args in
+    other-level (a .level) (now (a .line)) (c .before .before .before .before .before .before .before .before .if1 .left) _ _ _ _ (c .before .before .before .before .before .entry .ensures .0 ∙ ap (entryAt (now (a .line))) (c .before .before .before .before .before .before .word .ensures))
+    (c .before .before .before .word2 .ensures) (c .before .before .items-at .ensures) (c .before .eat .ensures) (c .if2 .taken)
+
+returns-3 : tie.Need-returns-3
+returns-3 c = let a = c .before .before .before .before .before .before .before .before .before .before .before .args in
+    other-count (a .level) (now (a .line)) (c .before .before .before .before .before .before .before .before .before .if1 .left) _ _ _ _ (c .before .before .before .before .before .before .entry .ensures .0 ∙ ap (entryAt (now (a .line))) (c .before .before .before .before .before .before .before .word .ensures))
+    (c .before .before .before .before .word2 .ensures) (c .before .before .before .items-at .ensures) (c .before .before .eat .ensures) (c .before .if2 .left) (c .if3 .taken)
+
+returns-4 : tie.Need-returns-4
+returns-4 c = let a = c .before .before .before .before .before .before .before .before .before .before .before .before .args in
+    other-end (a .level) (now (a .line)) (c .before .before .before .before .before .before .before .before .before .before .if1 .left) _ _ _ _ (c .before .before .before .before .before .before .before .entry .ensures .0 ∙ ap (entryAt (now (a .line))) (c .before .before .before .before .before .before .before .before .word .ensures))
+    (c .before .before .before .before .before .word2 .ensures) (c .before .before .before .before .items-at .ensures) (c .before .before .before .eat .ensures) (c .before .before .if2 .left) (c .before .if3 .left) (c .if4 .taken)
+
+returns-5 : tie.Need-returns-5
+returns-5 c = let a = c .before .before .before .before .before .before .before .before .before .before .before .before .args in
+    of-form (a .level) (now (a .line)) (c .before .before .before .before .before .before .before .before .before .before .if1 .left) _ _ _ _ (c .before .before .before .before .before .before .before .entry .ensures .0 ∙ ap (entryAt (now (a .line))) (c .before .before .before .before .before .before .before .before .word .ensures))
+    (c .before .before .before .before .before .word2 .ensures) (c .before .before .before .before .items-at .ensures) (c .before .before .before .eat .ensures) (c .before .before .if2 .left) (c .before .if3 .left) (c .if4 .left)
+
+pub row-at-spec : {M : Type 1} → statement M
+row-at-spec =
+    tie.close
+    (tie.spec
+    returns
+    slice-aggregate-word
+    word-requires
+    entry-requires
+    slice-aggregate-word-2
+    word-requires-2
+    items-at-requires
+    eat-requires
+    returns-2
+    returns-3
+    returns-4
+    returns-5)

@@ -1,0 +1,50 @@
+-- Lines and their numbers, one for each way to be refused, computed from the definitions. The texts of `crates/curves` are whole.
+use Prim.Native.Nat.{ℕ, zero, suc}
+use Prim.Native.String.{String}
+use mathlib.Core.Path.{_≡_, refl}
+use mathlib.Core.List.{List, [], _∷_, _++_, map}
+use lib.ListN.{length, replicate, getD, take, drop}
+use Rattle.bytes.specs.Bytes.{indexOf, indexAfter, slice}
+use Rattle.script.specs.Ascii.{ascii}
+use Rattle.script.specs.Line.{eatAt, wordAt, digitOf, digitAt, extendAt, moreAt, entryAt, itemAt, itemsAt}
+use Rattle.script.specs.Items.{valuesAt}
+use Rattle.reader.specs.Read.{lineEnd, lineAt}
+use Rattle.curve.specs.Curve.{rowAt, inRule, lineNumber}
+
+-- a text that begins with `before`, has n entries `0`, each with a space after it, and ends with `after`
+zeros : ℕ → List ℕ
+zeros zero = []
+zeros (suc n) = ascii "0 " ++ zeros n
+
+abbrev line : String → ℕ → String → List ℕ
+line before n after = ascii before ++ (zeros n ++ ascii after)
+
+-- a text of one line, and the number of that line as the first and as the second, after 64 zeros
+abbrev Row : Type 0
+Row = List ℕ × ℕ × ℕ
+
+unfoldable rows : List Row
+rows =
+    (line "(level 1 (" 63 "0))", 0, 12)
+    ∷ (line "(level 1 (" 63 "4095))\n", 0, 12)
+    ∷ (line "(level 2 (" 63 "0))", 12, 13)
+    ∷ (line "(level 01 (" 63 "0))", 12, 12)
+    ∷ (line "(level 1 (" 62 "0))", 12, 12)
+    ∷ (line "(level 1 (" 64 "0))", 12, 12)
+    ∷ (line "(level 1 (" 63 "00))", 12, 12)
+    ∷ (line "(level 1 (" 63 "100000))", 12, 12)
+    ∷ (line "(level 1 (" 63 " 0))", 12, 12)
+    ∷ (line "(level 1 (" 63 "0)) ", 12, 12)
+    ∷ (line "(level 1 (" 63 "0)", 12, 12)
+    ∷ (line "(Level 1 (" 63 "0))", 12, 12)
+    ∷ (line "\n(level 1 (" 63 "0))", 12, 12)
+    ∷ ([], 12, 12)
+    ∷ (line "(level 1 (" 63 "4096))", 13, 12)
+    ∷ (line "(level 1 (" 63 "99999))", 13, 12)
+    ∷ (line "(level 1 (1 " 62 "0))", 13, 12)
+    ∷ []
+
+numbers : map {A = Row} {B = ℕ × ℕ} (λ row. (lineNumber 0 (row .0) 0 [], lineNumber 1 (row .0) 0 (replicate 64 0))) rows
+    ≡ map {A = Row} {B = ℕ × ℕ} (λ row. (row .1, row .2)) rows
+unfolding rows zeros lineNumber rowAt inRule lineAt lineEnd indexOf indexAfter slice valuesAt itemsAt itemAt entryAt moreAt extendAt digitAt digitOf wordAt eatAt
+numbers = refl
