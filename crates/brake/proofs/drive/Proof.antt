@@ -17,7 +17,8 @@ returns c = let e = c .before .refusal .ensures in
     (e, drive-refused _ _ _ e (c .if1 .taken))
 
 place-requires : tie.Need-place-requires
-place-requires c κs = in-range _ _ (sym (c .before .refusal .ensures) ∙ c .if1 .left)
+place-requires c κs = let range = in-range _ _ (sym (c .before .refusal .ensures) ∙ c .if1 .left) in
+    (omega (arith, range), omega (arith, range), omega (arith, range))
 
 mul-entry : tie.Need-mul-entry
 mul-entry c = search needs

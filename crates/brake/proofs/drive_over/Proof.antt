@@ -9,16 +9,17 @@ use Rattle.brake.proofs.drive_over.Statement.{statement}
 use Rattle.brake.proofs.drive_over.Tie as tie
 
 returns : tie.Need-returns
-returns c = wrong-table _ _ _ (c .if1 .taken)
+returns c = wrong-table _ _ _ (λ z. absurd (omega (arith, c .if1 .taken, z)))
 
 refusal-requires : tie.Need-refusal-requires
 refusal-requires c κs = search needs
 
 returns-2 : tie.Need-returns-2
-returns-2 c = over-refused _ _ _ (c .before .before .if1 .left) _ (c .before .refusal .ensures) (c .if2 .taken)
+returns-2 c = over-refused _ _ _ (omega (arith, c .before .before .if1 .left)) _ (c .before .refusal .ensures) (c .if2 .taken)
 
 place-requires : tie.Need-place-requires
-place-requires c κs = in-range _ _ (sym (c .before .refusal .ensures) ∙ c .if2 .left)
+place-requires c κs = let range = in-range _ _ (sym (c .before .refusal .ensures) ∙ c .if2 .left) in
+    (omega (arith, range), omega (arith, range), omega (arith, range))
 
 mul-entry : tie.Need-mul-entry
 mul-entry c = search needs

@@ -41,7 +41,7 @@ loop-less c = omega (arith, c .before .before .loop .inv .2)
 
 loop-again : tie.Need-loop-again Inv-loop μ-loop
 loop-again c = let l = c .before .before .loop in
-    (omega (arith, l .inv .2), copied-on (now (c .before .before .before .args .scratch)) (l .table) (l .i) (omega (arith, c .before .before .before .pre .1, l .inv .2)) (c .before .loop-test .taken) (l .inv .1), search needs)
+    (omega (arith, l .inv .2), copied-on (now (c .before .before .before .args .scratch)) (l .table) (l .i) (omega (arith, c .before .before .before .pre .1, l .inv .2)) (omega (arith, l .inv .2, c .before .loop-test .taken)) (l .inv .1), search needs)
 
 same-length : tie.Need-same-length Inv-loop μ-loop
 same-length c = search needs

@@ -7,13 +7,16 @@ use Rattle.curve.proofs.in_rule.Statement.{statement}
 use Rattle.curve.proofs.in_rule.Tie as tie
 
 returns : tie.Need-returns
-returns c = rw (lt-leb _ _ (c .if1 .taken))
+returns c = let a = c .before .args in
+    rw (lt-leb (a .value) 4095 (omega (arith, c .if1 .taken)))
 
 returns-2 : tie.Need-returns-2
-returns-2 c = rw (le-leb _ _ (c .before .if1 .left), lt-leb _ _ (c .if2 .taken))
+returns-2 c = let a = c .before .before .args in
+    rw (le-leb (a .value) 4095 (omega (arith, c .before .if1 .left)), lt-leb _ _ (c .if2 .taken))
 
 returns-3 : tie.Need-returns-3
-returns-3 c = rw (le-leb _ _ (c .before .before .if1 .left), le-leb _ _ (c .before .if2 .left), lt-ltb _ _ (c .if3 .taken))
+returns-3 c = let a = c .before .before .before .args in
+    rw (le-leb (a .value) 4095 (omega (arith, c .before .before .if1 .left)), le-leb _ _ (c .before .if2 .left), lt-ltb (a .at) 64 (omega (arith, c .if3 .taken)))
 
 mul-lower : tie.Need-mul-lower
 mul-lower c = search needs
@@ -25,7 +28,8 @@ cast-lower : tie.Need-cast-lower
 cast-lower c = omega (arith, c .shared-slice-known .given (c .before .before .before .before .args .at - 64))
 
 returns-4 : tie.Need-returns-4
-returns-4 c = rw (le-leb _ _ (c .before .before .before .if1 .left), le-leb _ _ (c .before .before .if2 .left), le-ltb _ _ (c .before .if3 .left))
+returns-4 c = let a = c .before .before .before .before .args in
+    rw (le-leb (a .value) 4095 (omega (arith, c .before .before .before .if1 .left)), le-leb _ _ (c .before .before .if2 .left), le-ltb (a .at) 64 (omega (arith, c .before .if3 .left)))
 
 pub in-rule-spec : {M : Type 1} → statement M
 in-rule-spec =

@@ -2,7 +2,7 @@
 use borrow.Author.Needs.{needs}
 use native.Mathlib.Omega.{arith}
 use denote.Ref.{now}
-use mathlib.Core.Path.{refl, sym, _∙_}
+use mathlib.Core.Path.{_≡_, refl, sym, _∙_}
 use lib.ListN.{length}
 use Rattle.curve.proofs.Loaded.{wrong-table, short-scratch, bad-text, good-text}
 use Rattle.curve.proofs.load.Statement.{statement}
@@ -10,16 +10,16 @@ use Rattle.curve.proofs.load.Tie as tie
 
 returns : tie.Need-returns
 returns c = let a = c .before .before .before .before .args in
-    let w = wrong-table (now (a .text)) (now (a .table)) (length (now (a .scratch))) (c .if1 .taken) in
+    let w = wrong-table (now (a .text)) (now (a .table)) (length (now (a .scratch))) (λ z. absurd (omega (arith, c .if1 .taken, z))) in
     (w .0, w .1, refl, refl)
 
 returns-2 : tie.Need-returns-2
 returns-2 c = let a = c .before .before .before .before .before .args in
-    let w = short-scratch (now (a .text)) (now (a .table)) (length (now (a .scratch))) (c .before .if1 .left) (c .if2 .taken) in
+    let w = short-scratch (now (a .text)) (now (a .table)) (length (now (a .scratch))) (omega (arith, c .before .if1 .left)) (omega (arith, c .if2 .taken)) in
     (w .0, w .1, refl, refl)
 
 read-lines-requires : tie.Need-read-lines-requires
-read-lines-requires c κs = search needs
+read-lines-requires c κs = omega (arith, c .before .if2 .left)
 
 same-length : tie.Need-same-length
 same-length c = search needs
@@ -27,7 +27,7 @@ same-length c = search needs
 returns-3 : tie.Need-returns-3
 returns-3 c = let a = c .before .before .before .before .before .before .before .before .before .before .args in
     let r = c .before .before .before .read-lines .ensures in
-    let w = bad-text (now (a .text)) (now (a .table)) (length (now (a .scratch))) (c .before .before .before .before .before .before .if1 .left) (c .before .before .before .before .before .if2 .left) _ (r .0) (c .if3 .taken) in
+    let w = bad-text (now (a .text)) (now (a .table)) (length (now (a .scratch))) (c .before .before .before .before .before .before .if1 .left) (c .before .before .before .before .before .if2 .left) _ (r .0) (λ z. absurd (omega (arith, c .if3 .taken, z))) in
     (w .0, w .1, refl, r .2)
 
 copy-requires : tie.Need-copy-requires
@@ -43,8 +43,9 @@ returns-4 : tie.Need-returns-4
 returns-4 c = let a = c .before .before .before .before .before .before .before .before .before .before .before .before .before .before .before .args in
     let r = c .before .before .before .before .before .before .before .before .read-lines .ensures in
     let fits = c .before .before .before .before .before .before .before .before .before .before .before .if1 .left in
+    let good : c .before .before .before .before .before .before .before .before .read-lines .result ≡ 0 = omega (arith, c .before .before .before .before .before .if3 .left) in
     let copied = c .before .before .copy .ensures in
-    let w = good-text (now (a .text)) (now (a .table)) (length (now (a .scratch))) fits (c .before .before .before .before .before .before .before .before .before .before .if2 .left) _ _ (r .0) (c .before .before .before .before .before .if3 .left) (copied .0 ∙ r .1 (c .before .before .before .before .before .if3 .left)) in
+    let w = good-text (now (a .text)) (now (a .table)) (length (now (a .scratch))) fits (c .before .before .before .before .before .before .before .before .before .before .if2 .left) _ _ (r .0) good (copied .0 ∙ r .1 good) in
     (w .0, w .1, copied .1 ∙ sym fits, r .2)
 
 pub load-spec : {M : Type 1} → statement M

@@ -21,7 +21,7 @@ loop-holds : tie.Need-loop-holds Inv-loop μ-loop
 loop-holds c = (omega arith, refl, refl)
 
 line-into-requires : tie.Need-line-into-requires Inv-loop μ-loop
-line-into-requires c κs = (c .before .loop-test .taken, omega (arith, c .before .before .loop .inv .2, c .before .before .before .before .before .pre))
+line-into-requires c κs = (omega (arith, c .before .loop-test .taken), omega (arith, c .before .before .loop .inv .2, c .before .before .before .before .before .pre))
 
 same-length : tie.Need-same-length Inv-loop μ-loop
 same-length c = search needs
@@ -31,7 +31,7 @@ returns c = let a = c .before .before .before .before .before .before .before .b
     let l = c .before .before .before .before .before .before .loop in
     let r = c .before .before .before .line-into .ensures in
     let text = now (a .text) in
-    let stops = lines-stop (l .i) text (l .at) (take (64 * l .i) (l .scratch)) (c .before .before .before .before .before .loop-test .taken) (λ z. c .if1 .taken (r .0 ∙ z)) in
+    let stops = lines-stop (l .i) text (l .at) (take (64 * l .i) (l .scratch)) (omega (arith, c .before .before .before .before .before .loop-test .taken)) (λ z. c .if1 .taken (r .0 ∙ z)) in
     (r .0 ∙ ap (λ (x : Curve). x .number) (sym stops ∙ l .inv .1), λ z. absurd (c .if1 .taken z), r .2 ∙ l .inv .2)
 
 add-i : tie.Need-add-i Inv-loop μ-loop
@@ -45,7 +45,7 @@ loop-again c = let a = c .before .before .before .before .before .before .before
     let l = c .before .before .before .before .before .before .loop in
     let r = c .before .before .before .line-into .ensures in
     let text = now (a .text) in
-    let goes = lines-go (l .i) text (l .at) (take (64 * l .i) (l .scratch)) (c .before .before .before .before .before .loop-test .taken) (sym (r .0) ∙ c .if1 .left) in
+    let goes = lines-go (l .i) text (l .at) (take (64 * l .i) (l .scratch)) (omega (arith, c .before .before .before .before .before .loop-test .taken)) (sym (r .0) ∙ c .if1 .left) in
     let past = r .1 (c .if1 .left) in
     let all : 64 * (l .i + 1) ≡ 64 * l .i + 64 = omega arith in
     (omega arith, rw (all, past .0, past .1) (sym goes ∙ l .inv .1), r .2 ∙ l .inv .2)
@@ -56,7 +56,7 @@ same-length-2 c = search needs
 returns-2 : tie.Need-returns-2 Inv-loop μ-loop
 returns-2 c = let a = c .before .before .before .before .before .args in
     let l = c .before .before .loop in
-    let over = line-over (l .i) (now (a .text)) (l .at) (take (64 * l .i) (l .scratch)) (c .before .loop-test .left) (c .if2 .taken) in
+    let over = line-over (l .i) (now (a .text)) (l .at) (take (64 * l .i) (l .scratch)) (omega (arith, c .before .loop-test .left)) (c .if2 .taken) in
     (ap (λ (x : Curve). x .number) (sym over ∙ l .inv .1), λ z. absurd (omega arith), l .inv .2)
 
 same-length-3 : tie.Need-same-length-3 Inv-loop μ-loop
@@ -65,7 +65,7 @@ same-length-3 c = search needs
 returns-3 : tie.Need-returns-3 Inv-loop μ-loop
 returns-3 c = let a = c .before .before .before .before .before .args in
     let l = c .before .before .loop in
-    let ends = lines-end (l .i) (now (a .text)) (l .at) (take (64 * l .i) (l .scratch)) (c .before .loop-test .left) (c .if2 .left) in
+    let ends = lines-end (l .i) (now (a .text)) (l .at) (take (64 * l .i) (l .scratch)) (omega (arith, c .before .loop-test .left)) (c .if2 .left) in
     let all : 64 * l .i ≡ 1280 = omega arith in
     (ap (λ (x : Curve). x .number) (sym ends ∙ l .inv .1), λ z. rw all at (ap (λ (x : Curve). x .entries) (sym ends ∙ l .inv .1)), l .inv .2)
 

@@ -1,5 +1,6 @@
 -- `curve::row_at` meets its contract: each test rules the form out, and where none does the entries begin.
 use borrow.Author.Needs.{needs}
+use native.Mathlib.Omega.{arith}
 use denote.Ref.{now}
 use mathlib.Core.Path.{ap, _∙_}
 use Rattle.script.specs.Line.{entryAt}
@@ -8,7 +9,7 @@ use Rattle.curve.proofs.row_at.Statement.{statement}
 use Rattle.curve.proofs.row_at.Tie as tie
 
 returns : tie.Need-returns
-returns c = row-long _ _ (c .if1 .taken)
+returns c = row-long _ _ (omega (arith, c .if1 .taken))
 
 slice-aggregate-word : tie.Need-slice-aggregate-word
 slice-aggregate-word c = search needs
@@ -33,23 +34,23 @@ eat-requires c κs = search needs
 
 returns-2 : tie.Need-returns-2
 returns-2 c = let a = c .before .before .before .before .before .before .before .before .before .before .args in
-    other-level (a .level) (now (a .line)) (c .before .before .before .before .before .before .before .before .if1 .left) _ _ _ _ (c .before .before .before .before .before .entry .ensures .0 ∙ ap (entryAt (now (a .line))) (c .before .before .before .before .before .before .word .ensures))
-    (c .before .before .before .word2 .ensures) (c .before .before .items-at .ensures) (c .before .eat .ensures) (c .if2 .taken)
+    other-level (a .level) (now (a .line)) (omega (arith, c .before .before .before .before .before .before .before .before .if1 .left)) _ _ _ _ (c .before .before .before .before .before .entry .ensures .0 ∙ ap (entryAt (now (a .line))) (c .before .before .before .before .before .before .word .ensures))
+    (c .before .before .before .word2 .ensures) (c .before .before .items-at .ensures) (c .before .eat .ensures) (λ z. absurd (omega (arith, c .if2 .taken, z)))
 
 returns-3 : tie.Need-returns-3
 returns-3 c = let a = c .before .before .before .before .before .before .before .before .before .before .before .args in
-    other-count (a .level) (now (a .line)) (c .before .before .before .before .before .before .before .before .before .if1 .left) _ _ _ _ (c .before .before .before .before .before .before .entry .ensures .0 ∙ ap (entryAt (now (a .line))) (c .before .before .before .before .before .before .before .word .ensures))
-    (c .before .before .before .before .word2 .ensures) (c .before .before .before .items-at .ensures) (c .before .before .eat .ensures) (c .before .if2 .left) (c .if3 .taken)
+    other-count (a .level) (now (a .line)) (omega (arith, c .before .before .before .before .before .before .before .before .before .if1 .left)) _ _ _ _ (c .before .before .before .before .before .before .entry .ensures .0 ∙ ap (entryAt (now (a .line))) (c .before .before .before .before .before .before .before .word .ensures))
+    (c .before .before .before .before .word2 .ensures) (c .before .before .before .items-at .ensures) (c .before .before .eat .ensures) (omega (arith, c .before .if2 .left)) (λ z. absurd (omega (arith, c .if3 .taken, z)))
 
 returns-4 : tie.Need-returns-4
 returns-4 c = let a = c .before .before .before .before .before .before .before .before .before .before .before .before .args in
-    other-end (a .level) (now (a .line)) (c .before .before .before .before .before .before .before .before .before .before .if1 .left) _ _ _ _ (c .before .before .before .before .before .before .before .entry .ensures .0 ∙ ap (entryAt (now (a .line))) (c .before .before .before .before .before .before .before .before .word .ensures))
-    (c .before .before .before .before .before .word2 .ensures) (c .before .before .before .before .items-at .ensures) (c .before .before .before .eat .ensures) (c .before .before .if2 .left) (c .before .if3 .left) (c .if4 .taken)
+    other-end (a .level) (now (a .line)) (omega (arith, c .before .before .before .before .before .before .before .before .before .before .if1 .left)) _ _ _ _ (c .before .before .before .before .before .before .before .entry .ensures .0 ∙ ap (entryAt (now (a .line))) (c .before .before .before .before .before .before .before .before .word .ensures))
+    (c .before .before .before .before .before .word2 .ensures) (c .before .before .before .before .items-at .ensures) (c .before .before .before .eat .ensures) (c .before .before .if2 .left) (omega (arith, c .before .if3 .left)) (λ z. absurd (omega (arith, c .before .before .before .before .before .before .before .before .before .before .if1 .left, c .if4 .taken, z)))
 
 returns-5 : tie.Need-returns-5
 returns-5 c = let a = c .before .before .before .before .before .before .before .before .before .before .before .before .args in
-    of-form (a .level) (now (a .line)) (c .before .before .before .before .before .before .before .before .before .before .if1 .left) _ _ _ _ (c .before .before .before .before .before .before .before .entry .ensures .0 ∙ ap (entryAt (now (a .line))) (c .before .before .before .before .before .before .before .before .word .ensures))
-    (c .before .before .before .before .before .word2 .ensures) (c .before .before .before .before .items-at .ensures) (c .before .before .before .eat .ensures) (c .before .before .if2 .left) (c .before .if3 .left) (c .if4 .left)
+    of-form (a .level) (now (a .line)) (omega (arith, c .before .before .before .before .before .before .before .before .before .before .if1 .left)) _ _ _ _ (c .before .before .before .before .before .before .before .entry .ensures .0 ∙ ap (entryAt (now (a .line))) (c .before .before .before .before .before .before .before .before .word .ensures))
+    (c .before .before .before .before .before .word2 .ensures) (c .before .before .before .before .items-at .ensures) (c .before .before .before .eat .ensures) (c .before .before .if2 .left) (c .before .if3 .left) (omega (arith, c .if4 .left))
 
 pub row-at-spec : {M : Type 1} → statement M
 row-at-spec =
