@@ -23,7 +23,7 @@ unfit-requires c κs = search needs
 returns : tie.Need-returns Inv-loop μ-loop
 returns c =
     let p = c .before .before .args .plan in
-    unmeasured p _ 0 _ (c .unfit .ensures) (plan-one p (count-none p (c .before .if1 .taken)))
+    unmeasured p _ 0 _ (c .unfit .ensures) (plan-one p (count-none p (omega (arith, c .before .if1 .taken))))
 
 unfit-requires-2 : tie.Need-unfit-requires-2 Inv-loop μ-loop
 unfit-requires-2 c κs = search needs
@@ -31,13 +31,13 @@ unfit-requires-2 c κs = search needs
 returns-2 : tie.Need-returns-2 Inv-loop μ-loop
 returns-2 c =
     let p = c .before .before .before .args .plan in
-    unmeasured p _ 0 _ (c .unfit2 .ensures) (plan-one p (count-many p (c .before .if2 .taken)))
+    unmeasured p _ 0 _ (c .unfit2 .ensures) (plan-one p (count-many p (omega (arith, c .before .if2 .taken))))
 
 loop-holds : tie.Need-loop-holds Inv-loop μ-loop
 unfolding badWidths
 loop-holds c =
     let p = c .before .before .args .plan in
-    (omega arith, omega arith, count-fine p (c .before .if1 .left) (c .if2 .left), refl, sym (base-none p), omega arith)
+    (omega arith, omega arith, count-fine p (λ z. absurd (omega (arith, c .before .if1 .left, z))) (omega (arith, c .if2 .left)), refl, sym (base-none p), omega arith)
 
 width-of-requires : tie.Need-width-of-requires Inv-loop μ-loop
 width-of-requires c κs = search needs
@@ -50,8 +50,8 @@ returns-3 c =
     let p = c .before .before .before .before .before .before .before .args .plan in
     let l = c .before .before .before .before .loop in
     unmeasured p _ 1 _ (c .unfit3 .ensures)
-    (plan-two p (l .inv .2) (widths-bad p (p .count) (l .i) (c .before .before .before .loop-test .taken)
-    (width-none p (l .i) _ (c .before .before .width-of .ensures) (c .before .if3 .taken))))
+    (plan-two p (l .inv .2) (widths-bad p (p .count) (l .i) (omega (arith, c .before .before .before .loop-test .taken))
+    (width-none p (l .i) _ (c .before .before .width-of .ensures) (omega (arith, c .before .if3 .taken)))))
 
 unfit-requires-4 : tie.Need-unfit-requires-4 Inv-loop μ-loop
 unfit-requires-4 c κs = search needs
@@ -61,8 +61,8 @@ returns-4 c =
     let p = c .before .before .before .before .before .before .before .before .args .plan in
     let l = c .before .before .before .before .before .loop in
     unmeasured p _ 1 _ (c .unfit4 .ensures)
-    (plan-two p (l .inv .2) (widths-bad p (p .count) (l .i) (c .before .before .before .before .loop-test .taken)
-    (width-wide p (l .i) _ (c .before .before .before .width-of .ensures) (c .before .if4 .taken))))
+    (plan-two p (l .inv .2) (widths-bad p (p .count) (l .i) (omega (arith, c .before .before .before .before .loop-test .taken))
+    (width-wide p (l .i) _ (c .before .before .before .width-of .ensures) (omega (arith, c .before .if4 .taken)))))
 
 unit-length-requires : tie.Need-unit-length-requires Inv-loop μ-loop
 unit-length-requires c κs = search needs
@@ -85,7 +85,7 @@ loop-again c =
       omega arith,
       omega arith,
       l .inv .2,
-      widths-more p (l .i) (l .inv .3) (width-fine p (l .i) _ w (c .before .before .if3 .left) (c .before .if4 .left)),
+      widths-more p (l .i) (l .inv .3) (width-fine p (l .i) _ w (λ z. absurd (omega (arith, c .before .before .if3 .left, z))) (omega (arith, c .before .if4 .left))),
       omega (arith, more, c .unit-length .ensures .0, w),
       omega (arith, c .unit-length .ensures .1),
     )

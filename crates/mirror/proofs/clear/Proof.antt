@@ -31,7 +31,7 @@ loop-less c = search needs
 loop-again : tie.Need-loop-again Inv-loop μ-loop
 loop-again c = let xs = c .before .loop .span in
     let i = c .before .loop .i in
-    (length-set xs i 0 ∙ c .before .loop .inv .0, simp length-set (omega arith), zero-more xs i (c .loop-test .taken) (c .before .loop .inv .2))
+    (length-set xs i 0 ∙ c .before .loop .inv .0, simp length-set (omega arith), zero-more xs i (omega (arith, c .loop-test .taken)) (c .before .loop .inv .2))
 
 same-length : tie.Need-same-length Inv-loop μ-loop
 same-length c = search needs

@@ -42,7 +42,7 @@ place-requires-2 c κs = search needs
 returns-2 : tie.Need-returns-2
 returns-2 c = let a = c .before .before .before .before .before .before .before .before .args in
     placing (a .plan) (a .unit) _ _ _ (c .before .before .before .before .before .before .width-of .ensures) (c .before .before .before .before .before .base-of .ensures .0) (c .before .before .before .before .unit-length .ensures .0)
-    _ _ _ _ _ (write-to-A (a .plan) (now (a .payload)) (a .unit) (a .made) _ (c .before .before .before .before .before .before .width-of .ensures) (c .before .before .before .if1 .left) (c .before .before .if2 .taken))
+    _ _ _ _ _ (write-to-A (a .plan) (now (a .payload)) (a .unit) (a .made) _ (c .before .before .before .before .before .before .width-of .ensures) (c .before .before .before .if1 .left) (omega (arith, c .before .before .if2 .taken)))
     (omega arith) refl (omega arith) _ (c .place2 .ensures)
 
 add-if3 : tie.Need-add-if3
@@ -54,7 +54,7 @@ place-requires-3 c κs = search needs
 returns-3 : tie.Need-returns-3
 returns-3 c = let a = c .before .before .before .before .before .before .before .before .args in
     placing (a .plan) (a .unit) _ _ _ (c .before .before .before .before .before .before .width-of .ensures) (c .before .before .before .before .before .base-of .ensures .0) (c .before .before .before .before .unit-length .ensures .0)
-    _ _ _ _ _ (write-B (a .plan) (now (a .payload)) (a .unit) (a .made) _ (c .before .before .before .before .before .before .width-of .ensures) (c .before .if3 .taken)) refl refl tt _ (c .place3 .ensures)
+    _ _ _ _ _ (write-B (a .plan) (now (a .payload)) (a .unit) (a .made) _ (c .before .before .before .before .before .before .width-of .ensures) (omega (arith, c .before .if3 .taken))) refl refl tt _ (c .place3 .ensures)
 
 mul-if4 : tie.Need-mul-if4
 mul-if4 c = search needs
@@ -80,7 +80,7 @@ place-requires-4 c κs = search needs
 returns-4 : tie.Need-returns-4
 returns-4 c = let a = c .before .before .before .before .before .before .before .before .before .before .args in
     placing (a .plan) (a .unit) _ _ _ (c .before .before .before .before .before .before .before .before .width-of .ensures) (c .before .before .before .before .before .before .before .base-of .ensures .0) (c .before .before .before .before .before .before .unit-length .ensures .0)
-    _ _ _ _ _ (write-to-B (a .plan) (now (a .payload)) (a .unit) (a .made) _ (c .before .before .before .before .before .before .before .before .width-of .ensures) (omega arith) (c .before .before .if4 .taken))
+    _ _ _ _ _ (write-to-B (a .plan) (now (a .payload)) (a .unit) (a .made) _ (c .before .before .before .before .before .before .before .before .width-of .ensures) (omega arith) (omega (arith, c .before .before .if4 .taken)))
     (omega arith) refl (omega arith) _ (c .place4 .ensures)
 
 place-requires-5 : tie.Need-place-requires-5
@@ -89,7 +89,7 @@ place-requires-5 c κs = search needs
 returns-5 : tie.Need-returns-5
 returns-5 c = let a = c .before .before .before .before .before .before .before .before .before .args in
     placing (a .plan) (a .unit) _ _ _ (c .before .before .before .before .before .before .before .width-of .ensures) (c .before .before .before .before .before .before .base-of .ensures .0) (c .before .before .before .before .before .unit-length .ensures .0)
-    _ _ _ _ _ (write-OK (a .plan) (now (a .payload)) (a .unit) (a .made) _ (c .before .before .before .before .before .before .before .width-of .ensures) (c .before .if4 .left) (omega (arith, c .before .before .before .before .before .before .before .before .before .pre .1, c .before .before .before .before .before .before .before .width-of .ensures)))
+    _ _ _ _ _ (write-OK (a .plan) (now (a .payload)) (a .unit) (a .made) _ (c .before .before .before .before .before .before .before .width-of .ensures) (omega (arith, c .before .if4 .left)) (omega (arith, c .before .before .before .before .before .before .before .before .before .pre .1, c .before .before .before .before .before .before .before .width-of .ensures)))
     refl refl tt _ (c .place5 .ensures)
 
 pub write-store-spec : {M : Type 1} → statement M
