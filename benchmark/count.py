@@ -6,9 +6,9 @@ import sys
 ROUNDS = 40
 
 
-def instructions(program, units, width, mode, count):
+def instructions(program, units, width, mode, unit, count):
     """All instructions of one run, as callgrind counts them."""
-    asked = bytes([units, width % 256, width // 256, mode, units - 1, ROUNDS, 0, count % 256, count // 256])
+    asked = bytes([units, width % 256, width // 256, mode, unit, ROUNDS, 0, count % 256, count // 256])
     run = subprocess.run(
         ["valgrind", "--tool=callgrind", "--callgrind-out-file=/dev/null", program],
         input=asked, capture_output=True, check=True)
@@ -18,9 +18,14 @@ def instructions(program, units, width, mode, count):
 def each(program, units, width, mode):
     """Instructions of one call in a loop: a whole write's calls in each round, less the same rounds with none."""
     stores = 2 * width + 3
-    whole = instructions(program, units, width, mode, stores)
-    none = instructions(program, units, width, mode, 0)
+    whole = instructions(program, units, width, mode, units - 1, stores)
+    none = instructions(program, units, width, mode, units - 1, 0)
     return (whole - none) / (ROUNDS * stores)
+
+
+def drive(program, mode):
+    """Instructions of one drive in a loop over all rates of level 20, less the same run with none."""
+    return (instructions(program, 1, 1, mode, 20, 256) - instructions(program, 1, 1, mode, 20, 0)) / 256
 
 
 def frames(program):
@@ -46,9 +51,12 @@ def main():
         for width in (1, 16, 256):
             row = [each(program, units, width, mode) for mode in (0, 1) for program in (meter, baseline)]
             print(f"units {units}, width {width:3}        {row[0]:7.1f} {row[1]:6.1f} {row[0] / row[1]:7.2f} {row[2]:8.1f} {row[3]:6.1f} {row[2] / row[3]:7.2f}")
+    print("\ninstructions of one drive")
+    for mode, name in ((2, "drive"), (3, "drive over a table")):
+        print(f"  {name:24} {drive(meter, mode):.1f}")
     print("\nstack, bytes a function")
     for name, size in sorted(frames(meter).items()):
-        if name.startswith(("store::", "console::", "mirror::", "layout::")):
+        if name.startswith(("store::", "console::", "mirror::", "layout::", "brake::")):
             print(f"  {name:24} {size}")
 
 

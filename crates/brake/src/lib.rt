@@ -1300,7 +1300,7 @@ fn place(level: u16, rate: u16) -> usize
     requires { ⌜ (0 < level) × (level ≤ 20) × (rate ≤ 255) ⌝ }
     ensures { λ r. ⌜ r ≡ 64 * (level - 1) + rate / 4 ⌝ }
 {
-    64 * ((level - 1) as usize) + ((rate / 4) as usize)
+    64 * ((level - 1) as usize) + ((rate >> 2) as usize)
 }
 
 // "9 level 0 or above 20; 10 rate above 255": the lowest number that applies is given, so the level is looked at first.

@@ -1,5 +1,8 @@
 // What the benchmark counts (benchmark/README.md): on a plan of equal widths, rounds of one begin and `count` steps or passes.
 // Standard input has nine bytes: units, width (low byte first), 0 for step or 1 for pass, the unit, rounds and count (low bytes first).
+// Or, with 2 for drive or 3 for drive over a lent table: drives at a level (the unit's byte) and each rate below count.
+use brake::drive;
+use brake::drive_over;
 use console::passed;
 use libc::STDOUT_FILENO;
 use model::Plan;
@@ -82,10 +85,43 @@ fn play(asked: [u8; 9], image: &mut [u8], payload: &[u8]) {
     io::write_all(STDOUT_FILENO, b"\n");
 }
 
+// One drive, by the constant table or over a lent one.
+fn drive_of(table: &[u16], over: bool, level: u16, rate: u16) -> u16 {
+    if over {
+        let driven = drive_over(table, level, rate);
+        return driven.drive;
+    }
+    let driven = drive(level, rate);
+    driven.drive
+}
+
+// The drives of a level at each rate below count, put together so that none can be left out.
+fn drives_of(table: &[u16], over: bool, level: u16, count: u16) -> u16 {
+    let mut mixed: u16 = 0;
+    let mut rate: u16 = 0;
+    while rate < count {
+        mixed = mixed ^ drive_of(table, over, level, rate);
+        rate = rate + 1;
+    }
+    mixed
+}
+
+fn drive_all(asked: [u8; 9]) {
+    let table = [7u16; 1280];
+    let level = number_of(asked[4], 0);
+    let count = number_of(asked[7], asked[8]);
+    let mixed = drives_of(&table, asked[3] == 3, level, count);
+    io::write_all(STDOUT_FILENO, &[(mixed % 256) as u8]);
+}
+
 fn main() {
     let mut asked = [0u8; 9];
     let got = io::read_full(0, &mut asked);
     if got != 9 {
+        return;
+    }
+    if 1 < asked[3] {
+        drive_all(asked);
         return;
     }
     let mut image = [0u8; 4104];
