@@ -2,6 +2,7 @@
 use Prim.Native.Nat.{ℕ, zero, suc, _+_, _-_, _≤_, _<_}
 use mathlib.Core.Path.{_≡_, refl, ap, sym, _∙_}
 use mathlib.Core.List.{List}
+use mathlib.Core.Option.{Option, none, some}
 use native.Mathlib.Omega.{arith}
 use lib.ListN.{getD}
 use borrow.Author.Tests.{eq-eqb, ne-eqb}
@@ -10,7 +11,7 @@ use Rattle.model.specs.declared.Phase.{Phase}
 use Rattle.model.specs.declared.Phase.the-variants.{Cold, Ready, Writing, Recovering}
 use Rattle.model.specs.Marker.{OK, direction}
 use Rattle.model.specs.Layout.{marker, base, get}
-use Rattle.model.specs.Calls.{cleanupAmong, cleanupFrom}
+use Rattle.model.specs.Calls.{cleanupAmong, cleanupFrom, lowestBad}
 use Rattle.model.proofs.Compare.{Same, equal, differ, same}
 
 module _ (p : Plan) (image : List ℕ) (u b : ℕ) (is : b ≡ base p u) where
@@ -38,24 +39,24 @@ search-end p image u h =
     let none : p .count - u ≡ 0 = omega arith in
     rw none
 
--- what the search's answer tells of the n units from u on
-abbrev pub Tells : Plan → List ℕ → ℕ → ℕ → Phase → Type 0
-Tells p image u n Cold = ⊥
-Tells p image u n Ready = (v : ℕ) → u ≤ v → v < u + n → get p image v marker ≡ OK
-Tells p image u n (Writing t made) = ⊥
-Tells p image u n (Recovering t made d) = (t < u + n) × ¬ (get p image t marker ≡ OK)
+-- the unit that a phase cleans up
+abbrev pub cleaned : Phase → Option ℕ
+cleaned Cold = none
+cleaned Ready = none
+cleaned (Writing u made) = none
+cleaned (Recovering u made d) = some u
 
-pub search-tells : (p : Plan) (image : List ℕ) (n u : ℕ) → Tells p image u n (cleanupAmong p image n u)
-unfolding cleanupAmong
-search-tells p image zero u = λ v l h. absurd (omega arith)
-search-tells p image (suc n) u =
+search-lowest : (p : Plan) (image : List ℕ) (n u : ℕ) → cleaned (cleanupAmong p image n u) ≡ lowestBad p image n u
+unfolding cleanupAmong lowestBad
+search-lowest p image zero u = refl
+search-lowest p image (suc n) u =
     elim (same (get p image u marker) OK) [
-      | equal e ↦ rw (eq-eqb (get p image u marker) OK e) (wider (cleanupAmong p image n (suc u)) (search-tells p image n (suc u)) e)
-      | differ h ↦ rw (ne-eqb (get p image u marker) OK h) (omega arith, h)
+      | equal e ↦ rw (eq-eqb (get p image u marker) OK e) (search-lowest p image n (suc u))
+      | differ h ↦ rw (ne-eqb (get p image u marker) OK h)
     ]
-  where
-    wider : (phase : Phase) → Tells p image (suc u) n phase → get p image u marker ≡ OK → Tells p image u (suc n) phase
-    wider Cold t e = t
-    wider Ready t e = λ v l h. elim (same v u) [ equal q ↦ rw q e | differ q ↦ t v (omega arith) (omega arith) ]
-    wider (Writing w made) t e = t
-    wider (Recovering w made d) t e = (omega arith, t .1)
+
+-- the search finds the unit that inspect names
+pub search-names : (p : Plan) (image : List ℕ) → cleaned (cleanupFrom p image 0) ≡ lowestBad p image (p .count) 0
+search-names p image =
+    let all : p .count - 0 ≡ p .count = omega arith in
+    rw all (search-lowest p image (p .count) 0)

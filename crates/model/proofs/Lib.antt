@@ -7,4 +7,5 @@ pub mod LedgerLaws
 pub mod Invariant
 pub mod Keeps
 pub mod Theorem
+pub mod InspectLaws
 pub mod WorkedCases

@@ -1,8 +1,5 @@
 -- The definitions give every row of the tables of specs/Cases.antt and specs/Edges.antt: antt computes them.
-use Prim.Native.Nat.{ℕ, zero, suc, _<_}
-use mathlib.Core.Path.{_≡_, refl}
-use mathlib.Core.Option.{Option, none, some}
-use native.Mathlib.Omega.{arith}
+use mathlib.Core.Path.{refl}
 use Rattle.model.specs.Marker.{meaning, direction, tornBits, torn}
 use Rattle.model.specs.Layout.{base, get, put, copyOf, fresh, formatted}
 use Rattle.model.specs.Refusals.{badCount, badWidths, badJob, first, startNumber, formatNumber, wakeNumber, stepNumber, cutNumber, inspectNumber, readNumber, beginNumber}
@@ -12,7 +9,7 @@ use Rattle.model.specs.Ledger.{opening, markerOf, told, writeMarker, cle
 use Rattle.model.specs.PowerCut.{call, run, answers}
 use Rattle.model.specs.Drive.{driveNumber, drive}
 use Rattle.model.specs.Cases.{EveryCase}
-use Rattle.model.specs.Edges.{EveryRefusal, EveryOutcome, EveryStart, EveryPart, EveryEntry, InspectFacts, trace, plan21, noneBad}
+use Rattle.model.specs.Edges.{EveryRefusal, EveryOutcome, EveryStart, EveryPart, EveryEntry, EveryInspection, trace}
 
 -- C1 to C12
 pub every-case : EveryCase
@@ -39,27 +36,6 @@ pub every-entry : EveryEntry
 unfolding tornBits torn badCount badWidths badJob first wakeNumber stepNumber cutNumber beginNumber opening markerOf told writeMarker cleanupMarker saving accepted fed after
 every-entry = refl
 
-none-bad : calls.AllMarkersOk plan21 noneBad
-unfolding base get
-none-bad zero h = refl
-none-bad (suc zero) h = refl
-none-bad (suc (suc u)) h = absurd (omega arith)
-
-pub inspect-facts : InspectFacts
-unfolding base get badCount badWidths badJob first inspectNumber
-inspect-facts =
-    record {
-      bad = (refl, (omega arith, omega arith));
-      badNotNone = λ h. absurd (omega (arith, h .1 1 (omega arith)));
-      badNotAnother = λ h. h .1 .1 refl;
-      badNoUnit = λ h. absurd (omega (arith, h .1 .0));
-      badNotRefused = λ h. absurd (omega (arith, h .0));
-      good = (refl, none-bad);
-      goodNotSome = λ h. h .1 .1 refl;
-      refused = (refl, refl);
-      refusedNamesNone = λ h.
-          let e : _≡_ {A = Option ℕ} (some 0) none = h .1 in
-          let z : _≡_ {A = ℕ} 0 1 = cc in
-          absurd (omega arith);
-      refusedNotZero = λ h. absurd (omega (arith, h .0));
-    }
+pub every-inspection : EveryInspection
+unfolding base get badCount badWidths badJob first inspectNumber calls.lowestBad calls.inspect
+every-inspection = refl

@@ -170,25 +170,20 @@ read d image u = partUnlessRefused (readNumber (view d image) u) (copyOf (d .pla
 
 -- "A companion call gives the number, 0 or a refusal": readNumber (view d image) u.
 
--- The document's number, and the unit named, for each case of inspect's answer.
-abbrev pub numberIn : Inspection → ℕ
-numberIn (Refused n) = n
-numberIn (Suspect u) = 0
-numberIn AllOk = 0
-
-abbrev pub unitIn : Inspection → Option ℕ
-unitIn (Refused n) = none
-unitIn (Suspect u) = some u
-unitIn AllOk = none
-
 abbrev pub AllMarkersOk : Plan → List ℕ → Type 0
 AllMarkersOk p image = (u : ℕ) → u < p .count → get p image u marker ≡ OK
 
--- "some unit whose marker isn't 1, or none exactly if all are 1. Which one is free. .. refused, it .. names no unit"
-abbrev pub Names : Device → List ℕ → ℕ → Option ℕ → Type 0
-Names d image (suc refusal) unit = unit ≡ none
-Names d image zero none = AllMarkersOk (d .plan) image
-Names d image zero (some u) = (u < d .plan .count) × ¬ (get (d .plan) image u marker ≡ OK)
+-- Ticket 3: "the lowest unit whose marker isn't 1": of the n units from u on, or none
+unfoldable pub lowestBad : Plan → List ℕ → ℕ → ℕ → Option ℕ
+lowestBad p image zero u = none
+lowestBad p image (suc n) u = cond (eqb (get p image u marker) OK) (lowestBad p image n (suc u)) (some u)
 
-abbrev pub Inspects : Device → List ℕ → ℕ → Option ℕ → Type 0
-Inspects d image number unit = (number ≡ inspectNumber (view d image)) × Names d image number unit
+-- The case of inspect's answer for each number of the document and each unit named; "refused, it .. names no unit".
+abbrev pub inspection : ℕ → Option ℕ → Inspection
+inspection (suc refusal) unit = Refused (suc refusal)
+inspection zero (some u) = Suspect u
+inspection zero none = AllOk
+
+-- Ticket 3: "Inspect now names the lowest unit whose marker isn't 1"; "none exactly if all are 1"
+unfoldable pub inspect : Device → List ℕ → Inspection
+inspect d image = inspection (inspectNumber (view d image)) (lowestBad (d .plan) image (d .plan .count) 0)

@@ -1,17 +1,18 @@
 -- Edges that the power-cut theorem cannot see, as tables and facts: every number of every call; whole outcomes, also on images
--- that no list from a formatted device leaves; the ledger's own entries; what inspect may say.
+-- that no list from a formatted device leaves; the ledger's own entries; what inspect says.
 -- proofs/WorkedCases.antt has the theorems that the definitions give every row.
 use Prim.Native.Nat.{ℕ, zero, suc}
 use mathlib.Core.Path.{_≡_}
 use mathlib.Core.List.{List, [], _∷_, _++_, map}
-use mathlib.Core.Option.{Option, none, some}
 use lib.ListN.{replicate}
 use Rattle.model.specs.declared.Direction.the-variants.{AToB, BToA}
+use Rattle.model.specs.declared.Inspection.{Inspection}
+use Rattle.model.specs.declared.Inspection.the-variants.{Refused, Suspect, AllOk}
 use Rattle.model.specs.declared.Phase.{Phase}
 use Rattle.model.specs.declared.Phase.the-variants.{Cold, Ready, Writing, Recovering}
 use Rattle.model.specs.declared.Plan.{Plan}
 use Rattle.model.specs.Refusals.{Job, cold, ready, writing, recovering, readNumber, inspectNumber}
-use Rattle.model.specs.Calls.{Device, Answer, Outcome, outcome, view, zeroPayload, Inspects}
+use Rattle.model.specs.Calls.{Device, Answer, Outcome, outcome, view, zeroPayload}
 use Rattle.model.specs.Calls as calls
 use Rattle.model.specs.Ledger.{Call, begin, step, cut, wake, Ledger, opening, after}
 use Rattle.model.specs.PowerCut.{call, run}
@@ -285,27 +286,20 @@ EveryEntry =
     ∷ entry ready (3 ∷ []) 1 1 (0 ∷ [])
     ∷ []
 
--- ---- What inspect may say where unit 1 alone is bad, where none is, and where the image is a byte short.
-abbrev says : List ℕ → ℕ → Option ℕ → Type 0
-says image number unit = Inspects (device Cold held) image number unit
+-- ---- What inspect says: none bad, one or the other, both, a marker of no meaning, and an image that is a byte short.
+abbrev says : List ℕ → Inspection
+says image = calls.inspect (device Cold held) image
 
-abbrev oneBad : List ℕ
-oneBad = units fresh0 (2 ∷ 0 ∷ 0 ∷ [])
+abbrev bad0 : List ℕ
+bad0 = 4 ∷ 0 ∷ 0 ∷ 0 ∷ 0 ∷ []
 
-abbrev pub noneBad : List ℕ
-noneBad = units fresh0 fresh1
-
-abbrev short : List ℕ
-short = replicate 7 1
-
-pub record InspectFacts : Type 0 where
-  pub bad : says oneBad 0 (some 1)
-  pub badNotNone : ¬ says oneBad 0 none
-  pub badNotAnother : ¬ says oneBad 0 (some 0)
-  pub badNoUnit : ¬ says oneBad 0 (some 2)
-  pub badNotRefused : ¬ says oneBad 3 none
-  pub good : says noneBad 0 none
-  pub goodNotSome : ¬ says noneBad 0 (some 1)
-  pub refused : says short 3 none
-  pub refusedNamesNone : ¬ says short 3 (some 0)
-  pub refusedNotZero : ¬ says short 0 none
+abbrev pub EveryInspection : Type 0
+EveryInspection =
+    says (units fresh0 fresh1)
+    ∷ says (units bad0 fresh1)
+    ∷ says (units fresh0 (2 ∷ 0 ∷ 0 ∷ []))
+    ∷ says (units bad0 (2 ∷ 0 ∷ 0 ∷ []))
+    ∷ says (units fresh0 (64 ∷ 0 ∷ 0 ∷ []))
+    ∷ says (replicate 7 1)
+    ∷ []
+    ≡ AllOk ∷ Suspect 0 ∷ Suspect 1 ∷ Suspect 0 ∷ Suspect 1 ∷ Refused 3 ∷ []

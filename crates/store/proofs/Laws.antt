@@ -2,7 +2,7 @@
 use Prim.Native.Nat.{ℕ, zero, suc, _+_, _-_, _≤_, _<_}
 use mathlib.Core.Path.{_≡_, refl, ap, ap₂, sym, _∙_}
 use mathlib.Core.List.{List, [], _∷_, _++_}
-use mathlib.Core.Option.{Option, none, some}
+use mathlib.Core.Option.{Option}
 use mathlib.Core.Bool.{Bool, true, false, not, _||_}
 use native.Mathlib.Omega.{arith}
 use lib.Dec.{eqb, leb}
@@ -12,20 +12,20 @@ use Rattle.store.specs.declared.Device.{Device}
 use Rattle.store.specs.declared.Answer.{Answer}
 use Rattle.store.specs.Modelled.{modelled, blanked, unitNumber, Gives, Starts}
 use Rattle.model.specs.declared.Plan.{Plan}
-use Rattle.model.specs.declared.Direction.{Direction}
+use Rattle.model.specs.declared.Inspection.the-variants.{Refused}
 use Rattle.model.specs.declared.Phase.{Phase}
-use Rattle.model.specs.declared.Phase.the-variants.{Cold, Ready, Writing, Recovering}
+use Rattle.model.specs.declared.Phase.the-variants.{Cold}
 use Rattle.model.specs.Marker.{OK, End}
 use Rattle.model.specs.Layout.{copyA, marker, width, unitLength, base, get, copyOf}
 use Rattle.model.specs.Refusals.{View, isCold, isReady, _when_, Refusal, first, deviceRow, formatNumber, wakeNumber, stepNumber, cutNumber, inspectNumber, readNumber, beginNumber}
 use Rattle.model.specs.Stores.{Store, stored}
-use Rattle.model.specs.Calls.{jobOf, viewOf, view, Outcome, unlessRefused, startAnswer, partUnlessRefused, cleanupFrom, Inspects}
+use Rattle.model.specs.Calls.{jobOf, viewOf, view, Outcome, unlessRefused, startAnswer, partUnlessRefused, cleanupFrom, inspection, inspect}
 use Rattle.model.proofs.RefusalLaws.{first-skip, first-rest, first-front, first-refused, first-passed, first-past, past, begin-says, width-bounds}
 use Rattle.model.proofs.LayoutLaws.{base-bound, length-stored}
 use Rattle.layout.specs.Seen.{seen}
 use Rattle.mirror.specs.Placed.{Live}
 use Rattle.mirror.proofs.Laws.{room}
-use Rattle.mirror.proofs.Search.{marker-at, Tells, search-tells}
+use Rattle.mirror.proofs.Search.{marker-at, cleaned, search-names}
 
 -- ---- k is the code's number, n the definition's
 pub refused : (d : Device) (image : List ℕ) (k n : ℕ) (o : Outcome) → k ≡ n → ¬ (k ≡ 0)
@@ -167,26 +167,15 @@ part-shown k (suc n) part e z = absurd (omega arith)
 
 -- ---- inspect: k is the code's number, found what the search came to
 pub inspect-refused : (d : Device) (image : List ℕ) (k : ℕ) → k ≡ inspectNumber (view (modelled d) image) → ¬ (k ≡ 0)
-    → Inspects (modelled d) image k none
+    → Refused k ≡ inspect (modelled d) image
+unfolding inspect
 inspect-refused d image zero e h = absurd (h refl)
-inspect-refused d image (suc k) e h = (e, refl)
+inspect-refused d image (suc k) e h = rw (sym e)
 
-module _ (d : Device) (image : List ℕ) (k : ℕ) (e : k ≡ inspectNumber (view (modelled d) image)) (z : k ≡ 0)
-    (found : Phase) (is : found ≡ cleanupFrom (d .plan) image 0) where
-  told : (phase : Phase) → found ≡ phase → Tells (d .plan) image 0 (d .plan .count - 0) phase
-  told phase f = rw (sym f ∙ is) (search-tells (d .plan) image (d .plan .count - 0) 0)
-
-  pub inspect-none : found ≡ Ready → Inspects (modelled d) image 0 none
-  inspect-none f = (sym z ∙ e, λ u h. told Ready f u (omega arith) (omega arith))
-
-  pub inspect-some : (u made : ℕ) (w : Direction) → found ≡ Recovering u made w → Inspects (modelled d) image 0 (some u)
-  inspect-some u made w f =
-      let t = told (Recovering u made w) f in
-      (sym z ∙ e, (omega (arith, t .0), t .1))
-
-  -- a search comes to no other phase
-  pub never-cold : {X : Type 0} → found ≡ Cold → X
-  never-cold f = absurd (told Cold f)
-
-  pub never-writing : {X : Type 0} (u made : ℕ) → found ≡ Writing u made → X
-  never-writing u made f = absurd (told (Writing u made) f)
+pub inspect-says : (d : Device) (image : List ℕ) (k : ℕ) → k ≡ inspectNumber (view (modelled d) image) → k ≡ 0
+    → (found phase : Phase) → found ≡ cleanupFrom (d .plan) image 0 → found ≡ phase
+    → inspection 0 (cleaned phase) ≡ inspect (modelled d) image
+unfolding inspect
+inspect-says d image k e z found phase is f =
+    let n : inspectNumber (view (modelled d) image) ≡ 0 = sym e ∙ z in
+    rw n (ap (inspection 0) (ap cleaned (sym f ∙ is) ∙ search-names (d .plan) image))

@@ -7,7 +7,7 @@ ghost use mathlib.Core.Bool.{not, _||_};
 ghost use Prim.Native.Nat.{_≤_};
 ghost use lib.ListN.{length};
 ghost use Rattle.model.specs.Refusals.{isCold, isReady, _when_, first, deviceRow, readNumber};
-ghost use Rattle.model.specs.Calls.{jobOf, viewOf, view, padded, start, format, begin, step, wake, cut, read, numberIn, unitIn, Inspects};
+ghost use Rattle.model.specs.Calls.{jobOf, viewOf, view, padded, start, format, begin, step, wake, cut, read, inspect};
 ghost use Rattle.layout.specs.Seen.{seen};
 ghost use Rattle.store.specs.Modelled.{modelled, blanked, held, answer, unitNumber, Gives, Starts};
 ghost use Rattle.store.specs.Steps.{steps};
@@ -392,9 +392,9 @@ impl Device {
         &image[start..end]
     }
 
-    // A unit whose marker isn't OK, or that there is none. Refused: 1 to 4.
+    // The lowest unit whose marker isn't OK, or that there is none. Refused: 1 to 4.
     pub fn inspect(self, image: &[u8]) -> Inspection
-        ensures { λ r. ⌜ Inspects (modelled self) (now (image .entry)) (numberIn r) (unitIn r) ⌝ }
+        ensures { λ r. ⌜ r ≡ inspect (modelled self) (now (image .entry)) ⌝ }
     {
         let plan = self.plan;
         let phase = self.phase;

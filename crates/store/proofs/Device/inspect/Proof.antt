@@ -1,9 +1,9 @@
--- `Device::inspect` meets its contract: the search names a bad unit, or there is none.
+-- `Device::inspect` meets its contract: what the search comes to is what it says.
 use denote.Ref.{now}
 use mathlib.Core.List.{[]}
 use borrow.Author.Needs.{needs}
 use Rattle.mirror.proofs.Laws.{room}
-use Rattle.store.proofs.Laws.{live, inspect-number, inspect-refused, inspect-none, inspect-some, never-cold, never-writing}
+use Rattle.store.proofs.Laws.{live, inspect-number, inspect-refused, inspect-says}
 use Rattle.store.proofs.Device.inspect.Statement.{statement}
 use Rattle.store.proofs.Device.inspect.Tie as tie
 
@@ -33,19 +33,19 @@ enum-known-found c = search needs
 
 returns-2 : tie.Need-returns-2
 returns-2 c = let a = c .before .before .before .before .before .before .before .args in
-    never-cold (a .self) (now (a .image)) _ (inspect-number (a .self .plan) (a .self .phase) (now (a .image)) _ (c .before .before .before .before .device-number .ensures)) (c .before .before .before .if1 .left) _ (c .before .before .cleanup-from .ensures) (c .enum-told .given .1)
+    inspect-says (a .self) (now (a .image)) _ (inspect-number (a .self .plan) (a .self .phase) (now (a .image)) _ (c .before .before .before .before .device-number .ensures)) (c .before .before .before .if1 .left) _ _ (c .before .before .cleanup-from .ensures) (c .enum-told .given .1)
 
 returns-3 : tie.Need-returns-3
 returns-3 c = let a = c .before .before .before .before .before .before .before .args in
-    inspect-none (a .self) (now (a .image)) _ (inspect-number (a .self .plan) (a .self .phase) (now (a .image)) _ (c .before .before .before .before .device-number .ensures)) (c .before .before .before .if1 .left) _ (c .before .before .cleanup-from .ensures) (c .enum-told2 .given .1)
+    inspect-says (a .self) (now (a .image)) _ (inspect-number (a .self .plan) (a .self .phase) (now (a .image)) _ (c .before .before .before .before .device-number .ensures)) (c .before .before .before .if1 .left) _ _ (c .before .before .cleanup-from .ensures) (c .enum-told2 .given .1)
 
 returns-4 : tie.Need-returns-4
 returns-4 c = let a = c .before .before .before .before .before .before .before .args in
-    never-writing (a .self) (now (a .image)) _ (inspect-number (a .self .plan) (a .self .phase) (now (a .image)) _ (c .before .before .before .before .device-number .ensures)) (c .before .before .before .if1 .left) _ (c .before .before .cleanup-from .ensures) _ _ (c .enum-told3 .given .1)
+    inspect-says (a .self) (now (a .image)) _ (inspect-number (a .self .plan) (a .self .phase) (now (a .image)) _ (c .before .before .before .before .device-number .ensures)) (c .before .before .before .if1 .left) _ _ (c .before .before .cleanup-from .ensures) (c .enum-told3 .given .1)
 
 returns-5 : tie.Need-returns-5
 returns-5 c = let a = c .before .before .before .before .before .before .before .before .args in
-    inspect-some (a .self) (now (a .image)) _ (inspect-number (a .self .plan) (a .self .phase) (now (a .image)) _ (c .before .before .before .before .before .device-number .ensures)) (c .before .before .before .before .if1 .left) _ (c .before .before .before .cleanup-from .ensures) _ _ _ (c .before .found .given .1)
+    inspect-says (a .self) (now (a .image)) _ (inspect-number (a .self .plan) (a .self .phase) (now (a .image)) _ (c .before .before .before .before .before .device-number .ensures)) (c .before .before .before .before .if1 .left) _ _ (c .before .before .before .cleanup-from .ensures) (c .before .found .given .1)
 
 pub inspect-spec : {M : Type 1} → statement M
 inspect-spec =
