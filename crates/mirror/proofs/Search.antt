@@ -3,13 +3,15 @@ use Prim.Native.Nat.{ℕ, zero, suc, _+_, _-_, _≤_, _<_}
 use mathlib.Core.Path.{_≡_, refl, ap, sym, _∙_}
 use mathlib.Core.List.{List}
 use mathlib.Core.Option.{Option, none, some}
+use mathlib.Core.Bool.{Bool, true, false, _||_}
 use native.Mathlib.Omega.{arith}
 use lib.ListN.{getD}
 use borrow.Author.Tests.{eq-eqb, ne-eqb}
 use Rattle.model.specs.declared.Plan.{Plan}
 use Rattle.model.specs.declared.Phase.{Phase}
 use Rattle.model.specs.declared.Phase.the-variants.{Cold, Ready, Writing, Recovering}
-use Rattle.model.specs.Marker.{OK, direction}
+use Rattle.model.specs.Marker.{OK, meaning, isForeign, direction}
+use Rattle.model.specs.Refusals.{anyForeign}
 use Rattle.model.specs.Layout.{marker, base, get}
 use Rattle.model.specs.Calls.{cleanupAmong, cleanupFrom, lowestBad}
 use Rattle.model.proofs.Compare.{Same, equal, differ, same}
@@ -60,3 +62,25 @@ pub search-names : (p : Plan) (image : List ℕ) → cleaned (cleanupFrom p imag
 search-names p image =
     let all : p .count - 0 ≡ p .count = omega arith in
     rw all (search-lowest p image (p .count) 0)
+
+-- ---- the search for a foreign marker, from the highest unit down: b is where unit n - 1 begins
+module _ (p : Plan) (image : List ℕ) (n b : ℕ) (more : 0 < n) (is : b ≡ base p (n - 1)) where
+  abbrev markers : ℕ → ℕ
+  markers u = get p image u marker
+
+  foreign-more : anyForeign markers n ≡ (isForeign (meaning (getD image b 0)) || anyForeign markers (n - 1))
+  unfolding anyForeign
+  foreign-more =
+      let one : n ≡ suc (n - 1) = omega arith in
+      ap (anyForeign markers) one ∙ ap (λ (m : ℕ). isForeign (meaning m) || anyForeign markers (n - 1)) (sym (marker-at p image (n - 1) b is))
+
+  pub foreign-found : isForeign (meaning (getD image b 0)) ≡ true → true ≡ anyForeign markers n
+  foreign-found e = sym (foreign-more ∙ rw e)
+
+  pub foreign-passed : isForeign (meaning (getD image b 0)) ≡ false → anyForeign markers (n - 1) ≡ anyForeign markers n
+  foreign-passed e = sym (foreign-more ∙ rw e)
+
+pub foreign-none : (p : Plan) (image : List ℕ) (n : ℕ) → n ≤ 0 → false ≡ anyForeign (λ u. get p image u marker) n
+unfolding anyForeign
+foreign-none p image zero h = refl
+foreign-none p image (suc n) h = absurd (omega arith)

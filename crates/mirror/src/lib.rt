@@ -7,10 +7,10 @@ ghost use mathlib.Core.Bool.{cond};
 ghost use Prim.Native.Nat.{_+_, _-_, _<_, _≤_};
 ghost use lib.Dec.{eqb};
 ghost use lib.ListN.{length, set, getElem?, replicate};
-ghost use Rattle.model.specs.Layout.{width, unitLength, base, total, formatted};
+ghost use Rattle.model.specs.Layout.{marker, width, unitLength, base, total, get, formatted};
 ghost use Rattle.model.proofs.RefusalLaws.{PlanOk};
 ghost use Rattle.model.specs.Marker.{OK, torn, direction, completed, tornBy};
-ghost use Rattle.model.specs.Refusals.{writeTotal, cleanupTotal};
+ghost use Rattle.model.specs.Refusals.{writeTotal, cleanupTotal, anyForeign};
 ghost use Rattle.model.specs.Stores.{writeStores, cleanupStores, stored};
 ghost use Rattle.model.specs.Calls.{next, phaseAfter, cleanupFrom};
 ghost use Rattle.mirror.specs.Placed.{Live, Chosen, Comes};
@@ -172,6 +172,7 @@ fn direction_of(marker: u8) -> Direction
         Marker::WritingToA => Direction::BToA,
         Marker::WritingToB => Direction::AToB,
         Marker::Corrupted => Direction::AToB,
+        Marker::Foreign => Direction::AToB,
     }
 }
 
@@ -197,6 +198,22 @@ pub fn cleanup_from(plan: Plan, image: &[u8], from: u16) -> Phase
         unit = unit + 1;
     }
     Phase::Ready
+}
+
+// Whether any unit's marker is foreign, so that the memory is another product's.
+pub fn any_foreign(plan: Plan, image: &[u8]) -> bool
+    requires { ⌜ PlanOk plan × (total plan ≤ length (now image)) ⌝ }
+    ensures { λ r. ⌜ r ≡ anyForeign (λ u. get plan (now (image .entry)) u marker) (plan .count) ⌝ }
+{
+    let mut units = plan.count;
+    while 0 < units {
+        units = units - 1;
+        let marker = Marker::classify(image[base_of(plan, units)]);
+        if marker.is_foreign() {
+            return true;
+        }
+    }
+    false
 }
 
 // The phase after a store; `image` is the image after it.

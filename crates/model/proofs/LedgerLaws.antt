@@ -1,7 +1,7 @@
 -- What the ledger notes of each store: by the store's number, the unit's marker and whether the write passes.
-use Prim.Native.Nat.{ℕ, zero, suc, _+_, _*_, _<_}
+use Prim.Native.Nat.{ℕ, zero, suc, _+_, _*_, _≤_, _<_}
 use mathlib.Core.Path.{_≡_, refl, ap, ap₂, sym, _∙_}
-use mathlib.Core.List.{List}
+use mathlib.Core.List.{List, [], _∷_}
 use mathlib.Core.Bool.{Bool, true, false, cond, not, _&&_}
 use native.Mathlib.Omega.{arith}
 use lib.Dec.{eqb}
@@ -9,8 +9,9 @@ use borrow.Author.Tests.{eq-eqb, ne-eqb}
 use Rattle.model.specs.declared.Plan.{Plan}
 use Rattle.model.specs.Marker.{OK, A, B, End, completed, tornBy, markerLeft}
 use Rattle.model.specs.Layout.{width}
-use Rattle.model.specs.Refusals.{Job, cold, ready, writing, recovering}
-use Rattle.model.specs.Ledger.{Ledger, Call, step, cut, markerOf, writeMarker, cleanupMarker, passes, saving, wrote, cleaned, accepted}
+use Rattle.model.specs.Refusals.{Job, cold, ready, writing, recovering, anyForeign}
+use Rattle.model.specs.Ledger.{Ledger, Call, begin, step, cut, wake, opening, markerOf, told, writeMarker, cleanupMarker, passes, saving, wrote, cleaned, stepped, wasCut, accepted, unlessRefused, fed, after}
+use Rattle.model.proofs.MarkerLaws.{not-foreign, torn-small}
 
 -- the ledger at job j with unit u last written, its marker m
 abbrev pub at : Ledger → Job → ℕ → ℕ → (ℕ → List ℕ) → Ledger
@@ -123,3 +124,76 @@ module _ (p : Plan) (l : Ledger) (u made : ℕ) (is : l .job ≡ recovering u ma
   unfolding accepted cleanupMarker
   notes-settle h completed = rw (is, eq-eqb (suc made) (width p u + 1) (omega arith))
   notes-settle h (tornBy m) = rw (is, eq-eqb (suc made) (width p u + 1) (omega arith))
+
+-- ---- Ticket 4: the ledger's marker never exceeds 7
+left-small : (e : End) (old code : ℕ) → old ≤ 7 → code ≤ 7 → markerLeft e old code ≤ 7
+left-small completed old code h k = k
+left-small (tornBy m) old code h k = torn-small old code m h k
+
+write-small : (w n : ℕ) (e : End) (old : ℕ) → old ≤ 7 → writeMarker w n e old ≤ 7
+unfolding writeMarker
+write-small w n e old h = go (eqb n 1) (eqb n (w + 2)) (eqb n (2 * w + 3))
+  where
+    go : (x y z : Bool) → cond x (markerLeft e old A) (cond y (markerLeft e old B) (cond z (markerLeft e old OK) old)) ≤ 7
+    go true y z = left-small e old A h (omega arith)
+    go false true z = left-small e old B h (omega arith)
+    go false false true = left-small e old OK h (omega arith)
+    go false false false = h
+
+cleanup-small : (w n : ℕ) (e : End) (old : ℕ) → old ≤ 7 → cleanupMarker w n e old ≤ 7
+unfolding cleanupMarker
+cleanup-small w n e old h = go (eqb n (w + 1))
+  where
+    go : (x : Bool) → cond x (markerLeft e old OK) old ≤ 7
+    go true = left-small e old OK h (omega arith)
+    go false = h
+
+module _ (p : Plan) (l : Ledger) (h : l .marker ≤ 7) where
+  marker-small : (u : ℕ) → markerOf l u ≤ 7
+  unfolding markerOf
+  marker-small u = go (eqb u (l .unit))
+    where
+      go : (t : Bool) → cond t (l .marker) OK ≤ 7
+      go true = h
+      go false = omega arith
+
+  pub none-foreign : (k : ℕ) → anyForeign (markerOf l) k ≡ false
+  unfolding anyForeign
+  none-foreign zero = refl
+  none-foreign (suc k) = rw (not-foreign (markerOf l k) (marker-small k)) (none-foreign k)
+
+  step-small : (j : Job) → stepped p l j .marker ≤ 7
+  step-small cold = h
+  step-small ready = h
+  step-small (writing u made) = write-small (width p u) (suc made) completed (markerOf l u) (marker-small u)
+  step-small (recovering u made) = cleanup-small (width p u) (suc made) completed (markerOf l u) (marker-small u)
+
+  cut-small : (m : ℕ) (j : Job) → wasCut p l m j .marker ≤ 7
+  cut-small m cold = h
+  cut-small m ready = h
+  cut-small m (writing u made) = write-small (width p u) (suc made) (tornBy m) (markerOf l u) (marker-small u)
+  cut-small m (recovering u made) = cleanup-small (width p u) (suc made) (tornBy m) (markerOf l u) (marker-small u)
+
+  accepted-small : (c : Call) → accepted p l c .marker ≤ 7
+  unfolding accepted
+  accepted-small (begin u payload) = h
+  accepted-small step = step-small (l .job)
+  accepted-small (cut m) = cut-small m (l .job)
+  accepted-small wake = h
+
+  fed-small : (c : Call) → fed p l c .marker ≤ 7
+  unfolding fed
+  fed-small c = go (told p l c)
+    where
+      go : (n : ℕ) → unlessRefused n l (accepted p l c) .marker ≤ 7
+      go zero = accepted-small c
+      go (suc n) = h
+
+after-small : (p : Plan) (cs : List Call) (l : Ledger) → l .marker ≤ 7 → after p l cs .marker ≤ 7
+unfolding after
+after-small p [] l h = h
+after-small p (c ∷ cs) l h = after-small p cs (fed p l c) (fed-small p l h c)
+
+pub ledger-small : (p : Plan) (cs : List Call) → after p (opening p) cs .marker ≤ 7
+unfolding opening
+ledger-small p cs = after-small p cs (opening p) (omega arith)

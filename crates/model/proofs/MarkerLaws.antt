@@ -1,14 +1,14 @@
 -- The torn marker, and the way that a marker makes a cleanup copy.
-use Prim.Native.Nat.{ℕ, zero, suc, _+_, _*_, _/_, _%_}
+use Prim.Native.Nat.{ℕ, zero, suc, _+_, _*_, _/_, _%_, _≤_, _<_}
 use mathlib.Core.Path.{_≡_, refl, ap, sym, _∙_}
 use mathlib.Core.Bool.{Bool, true, false, cond}
 use native.Mathlib.Omega.{arith}
-use lib.Dec.{eqb}
-use borrow.Author.Tests.{eq-eqb, ne-eqb}
+use lib.Dec.{eqb, ltb}
+use borrow.Author.Tests.{eq-eqb, ne-eqb, lt-ltb}
 use Rattle.model.specs.declared.Direction.{Direction}
 use Rattle.model.specs.declared.Direction.the-variants.{AToB, BToA}
-use Rattle.model.specs.declared.Marker.the-variants.{Clean, WritingToB, Corrupted}
-use Rattle.model.specs.Marker.{OK, A, B, meaning, way, direction, tornBits, torn}
+use Rattle.model.specs.declared.Marker.the-variants.{Clean, WritingToA, WritingToB, Corrupted, Foreign}
+use Rattle.model.specs.Marker.{OK, A, B, FOREIGN, meaning, isForeign, way, direction, tornBits, torn}
 
 -- the lowest bit of a torn marker is the new code's or the old marker's
 torn-lowest : (old new m : ℕ) → torn old new m % 2 ≡ cond (eqb (m % 2) 1) (new % 2) (old % 2)
@@ -33,9 +33,48 @@ direction-A m e = rw e
 
 pub direction-other : (m : ℕ) → ¬ (m ≡ A) → direction m ≡ AToB
 unfolding direction meaning
-direction-other m h = rw (ne-eqb m A h) (go (eqb m OK) (eqb m B))
+direction-other m h = rw (ne-eqb m A h) (go (eqb m OK) (eqb m B) (ltb m FOREIGN))
   where
-    go : (t s : Bool) → way (cond t Clean (cond s WritingToB Corrupted)) ≡ AToB
-    go true s = refl
-    go false true = refl
-    go false false = refl
+    go : (t s r : Bool) → way (cond t Clean (cond s WritingToB (cond r Corrupted Foreign))) ≡ AToB
+    go true s r = refl
+    go false true r = refl
+    go false false true = refl
+    go false false false = refl
+
+-- ---- Ticket 4: a marker of at most 7 isn't foreign, and torn by a code it stays so
+pub not-foreign : (m : ℕ) → m ≤ 7 → isForeign (meaning m) ≡ false
+unfolding meaning
+not-foreign m h = rw (lt-ltb m FOREIGN (omega arith)) (go (eqb m OK) (eqb m A) (eqb m B))
+  where
+    go : (t s r : Bool) → isForeign (cond t Clean (cond s WritingToA (cond r WritingToB Corrupted))) ≡ false
+    go true s r = refl
+    go false true r = refl
+    go false false true = refl
+    go false false false = refl
+
+bits-zero : (n m : ℕ) → tornBits n 0 0 m ≡ 0
+unfolding tornBits
+bits-zero zero m = refl
+bits-zero (suc n) m = go (eqb (m % 2) 1) (bits-zero n (m / 2))
+  where
+    go : (t : Bool) → tornBits n 0 0 (m / 2) ≡ 0 → cond t 0 0 + 2 * tornBits n 0 0 (m / 2) ≡ 0
+    go true e = omega arith
+    go false e = omega arith
+
+-- one bit more doubles the bound
+bits-more : (n b old new m : ℕ) → tornBits n (old / 2) (new / 2) (m / 2) < b → tornBits (suc n) old new m < 2 * b
+unfolding tornBits
+bits-more n b old new m h = go (eqb (m % 2) 1)
+  where
+    go : (t : Bool) → cond t (new % 2) (old % 2) + 2 * tornBits n (old / 2) (new / 2) (m / 2) < 2 * b
+    go true = omega arith
+    go false = omega arith
+
+pub torn-small : (old new m : ℕ) → old ≤ 7 → new ≤ 7 → torn old new m ≤ 7
+unfolding torn
+torn-small old new m h k =
+    let o : old / 2 / 2 / 2 ≡ 0 = omega arith in
+    let n : new / 2 / 2 / 2 ≡ 0 = omega arith in
+    let rest : tornBits 5 (old / 2 / 2 / 2) (new / 2 / 2 / 2) (m / 2 / 2 / 2) < 1 =
+    rw (o, n, bits-zero 5 (m / 2 / 2 / 2)) (omega arith) in
+    omega (arith, bits-more 7 4 old new m (bits-more 6 2 (old / 2) (new / 2) (m / 2) (bits-more 5 1 (old / 2 / 2) (new / 2 / 2) (m / 2 / 2) rest)))

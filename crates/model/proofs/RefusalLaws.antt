@@ -10,7 +10,7 @@ use borrow.Author.Tests.{ltb-true, ltb-false, leb-false, eqb-true, eqb-false, lt
 use Rattle.model.specs.declared.Plan.{Plan}
 use Rattle.model.specs.Layout.{width}
 use Rattle.model.specs.Marker.{OK}
-use Rattle.model.specs.Refusals.{Job, cold, ready, writing, recovering, isCold, isReady, writeTotal, cleanupTotal, View, badCount, badWidths, badJob, Refusal, _when_, first, planRow, deviceRow, startNumber, formatNumber, wakeNumber, stepNumber, cutNumber, beginNumber}
+use Rattle.model.specs.Refusals.{Job, cold, ready, writing, recovering, isCold, isReady, writeTotal, cleanupTotal, View, badCount, badWidths, badJob, Refusal, _when_, first, planRow, deviceRow, anyForeign, startNumber, formatNumber, wakeNumber, stepNumber, cutNumber, beginNumber}
 use Rattle.model.proofs.Compare.{Order, below, above, order}
 
 -- ---- the first refusal that holds
@@ -155,9 +155,18 @@ ready-only ready e = refl
 ready-only (writing u n) e = absurd (true≢false e)
 ready-only (recovering u n) e = absurd (true≢false e)
 
+-- Ticket 4: 14 comes after 5, so that outside Cold no marker is asked for
+wake-awake : (v : View) → first (deviceRow v) ≡ 0 → not (isCold (v .job)) ≡ true → wakeNumber v ≡ 5
+unfolding wakeNumber
+wake-awake v e h = first-passed (deviceRow v) _ refl e ∙ first-stop 5 _ _ h
+
 pub wake-says : (v : View) → wakeNumber v ≡ 0 → v .job ≡ cold
 unfolding wakeNumber
-wake-says v e = cold-only (v .job) (first-past 4 _ [] (past v _ e .more) .0)
+wake-says v e = cold-only (v .job) (go (not (isCold (v .job))) refl)
+  where
+    go : (t : Bool) → not (isCold (v .job)) ≡ t → t ≡ false
+    go true h = absurd (omega (arith, e, wake-awake v (first-front (deviceRow v) _ e) h))
+    go false h = refl
 
 pub record Began (v : View) (u : ℕ) (payload : List ℕ) : Type 0 where
   pub job : v .job ≡ ready
@@ -199,9 +208,9 @@ module _ (v : View) (ok : PlanOk (v .plan)) (long : v .short ≡ false) where
     unfolding badJob
     cold-fine = rw e
 
-    pub wake-cold : wakeNumber v ≡ 0
+    pub wake-cold : anyForeign (v .marker) (v .plan .count) ≡ false → wakeNumber v ≡ 0
     unfolding wakeNumber
-    wake-cold = device-past _ cold-fine ∙ first-skip 5 _ [] (rw e) ∙ first-none
+    wake-cold h = device-past _ cold-fine ∙ first-skip 5 _ _ (rw e) ∙ first-skip 14 _ [] h ∙ first-none
 
     pub format-cold : formatNumber v ≡ 0
     unfolding formatNumber
@@ -226,7 +235,12 @@ pub plan-passed : (p : Plan) (rest : List Refusal) → startNumber p ≡ 0 → f
 unfolding startNumber
 plan-passed p rest e = first-passed (planRow p) rest refl e
 
--- ---- two views that no call tells apart: begin looks at the marker of a unit that the plan has
+foreign-alike : (m m′ : ℕ → ℕ) (k : ℕ) → ((u : ℕ) → u < k → m u ≡ m′ u) → anyForeign m k ≡ anyForeign m′ k
+unfolding anyForeign
+foreign-alike m m′ zero h = refl
+foreign-alike m m′ (suc k) h = rw (h k (omega arith), foreign-alike m m′ k (λ u l. h u (omega arith)))
+
+-- ---- two views that no call tells apart: begin and wake look at markers of units that the plan has
 pub record Alike (v v′ : View) : Type 0 where
   pub plan : v .plan ≡ v′ .plan
   pub short : v .short ≡ v′ .short
@@ -244,7 +258,7 @@ module _ {v v′ : View} (a : Alike v v′) where
 
   pub wake-alike : wakeNumber v ≡ wakeNumber v′
   unfolding wakeNumber
-  wake-alike = rw (a .plan, a .short, a .job)
+  wake-alike = rw (a .plan, a .short, a .job, foreign-alike (v .marker) (v′ .marker) (v′ .plan .count) (a .marker))
 
   pub begin-alike : (u : ℕ) (payload : List ℕ) → beginNumber v u payload ≡ beginNumber v′ u payload
   unfolding beginNumber

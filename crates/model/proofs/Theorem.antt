@@ -4,7 +4,7 @@ use mathlib.Core.Path.{_≡_, refl, ap, ap₂, sym, _∙_, subst}
 use mathlib.Core.List.{List, [], _∷_, _++_}
 use mathlib.Core.Bool.{Bool, true, false, true≢false}
 use native.Mathlib.Omega.{arith}
-use lib.ListN.{length, drop, replicate, length-replicate, getD-replicate}
+use lib.ListN.{length, take, drop, replicate, length-replicate, getD-replicate}
 use borrow.Author.Tests.{eq-eqb, ne-eqb, le-ltb, ltb-false}
 use Rattle.model.specs.declared.Plan.{Plan}
 use Rattle.model.specs.declared.Phase.the-variants.{Ready}
@@ -16,10 +16,11 @@ use Rattle.model.specs.Calls as calls
 use Rattle.model.specs.Ledger.{Ledger, Call, step, cut, wake, opening, judged, told, accepted, fed, tells, after, wasCut}
 use Rattle.model.specs.Ledger as ledger
 use Rattle.model.specs.PowerCut.{call, run, answers, closedBy, repair, Repairs, none, only, Repaired, Survives, PowerCut, PowerCutFromStart}
+use Rattle.model.specs.Foreign.{NeverForeign}
 use Rattle.model.proofs.Compare.{Same, equal, differ, same}
 use Rattle.model.proofs.RefusalLaws.{PlanOk, count-bounds, start-says, format-says, format-cold, job-writing, job-recovering, wake-cold, cut-any, step-recovering}
 use Rattle.model.proofs.LayoutLaws.{copy-is, get-formatted, length-formatted, rest-formatted}
-use Rattle.model.proofs.LedgerLaws.{at, own-marker, notes-copy, notes-settle}
+use Rattle.model.proofs.LedgerLaws.{at, own-marker, notes-copy, notes-settle, none-foreign, ledger-small}
 use Rattle.model.proofs.Invariant.{Has, Whole, Both, Clean, Frame, Stage, resting, off, opened, toA, toB, mending, phased, job-phased, Inv, all-clean}
 use Rattle.model.proofs.Keeps.{Agrees, keeps}
 
@@ -197,12 +198,12 @@ module _ (p : Plan) (ok : PlanOk p) (before : List ℕ) where
         }
 
   -- ---- what the closing cut left is repaired
-  repaired : (l : Ledger) (o : Outcome) → Inv p before l o → l .job ≡ cold → Repaired p before (l .saved) o
+  repaired : (l : Ledger) (o : Outcome) → Inv p before l o → l .job ≡ cold → l .marker ≤ 7 → Repaired p before (l .saved) o
   unfolding told accepted
-  repaired l o inv job = go (same (l .marker) OK)
+  repaired l o inv job small = go (same (l .marker) OK)
     where
       woken : told p l wake ≡ 0
-      woken = wake-cold (judged p l) ok refl job
+      woken = wake-cold (judged p l) ok refl job (none-foreign p l small (p .count))
 
       is : fed p l wake ≡ accepted p l wake
       is = fed-accepted l wake woken
@@ -229,22 +230,46 @@ module _ (p : Plan) (ok : PlanOk p) (before : List ℕ) where
   survives : (f : Outcome) → Inv p before (opening p) f → (cs : List Call) (m : ℕ) → Survives p before f m cs
   survives f inv cs m =
       let t = along (closedBy m cs) (opening p) f inv in
-      record { answered = t .answered; repaired = repaired _ _ (t .inv) (ends-cold cs m (opening p) f inv) }
+      record {
+        answered = t .answered;
+        repaired = repaired _ _ (t .inv) (ends-cold cs m (opening p) f inv) (ledger-small p (closedBy m cs));
+      }
+
+  -- ---- Ticket 4: the image has the ledger's markers
+  image-small : (f : Outcome) → Inv p before (opening p) f → (cs : List Call)
+      → (v : ℕ) → v < p .count → get p (run cs f .image) v marker ≤ 7
+  image-small f inv cs v hv =
+      let i = along cs (opening p) f inv .inv in
+      elim (same v (after p (opening p) cs .unit)) [
+        | equal e ↦ rw (e, i .mark) (ledger-small p cs)
+        | differ e ↦ rw (i .frame .others v hv e .mark) (omega arith)
+      ]
 
 -- ---- the theorem
 accepts : (n : ℕ) (d : Device) (image : List ℕ) (o : Outcome) → calls.unlessRefused n d image o .number ≡ 0 → n ≡ 0
 accepts zero d image o e = refl
 accepts (suc n) d image o e = e
 
-pub power-cut : PowerCut
+format-opens : (d : Device) (image : List ℕ) → calls.format d image .number ≡ 0
+    → PlanOk (d .plan) × Inv (d .plan) image (opening (d .plan)) (calls.format d image)
 unfolding calls.format
-power-cut d image e =
+format-opens d image e =
     let n : ℕ = formatNumber (view d image) in
     let z : n ≡ 0 = accepts n d image (outcome 0 (asFormatted d) (formatted (d .plan) image)) e in
     let h = format-says (view d image) z in
     let f : Outcome = outcome 0 (asFormatted d) (formatted (d .plan) image) in
     let long : total (d .plan) ≤ length image = ltb-false (length image) (total (d .plan)) (h .1) in
-    rw z (survives (d .plan) (h .0) image f (opens (d .plan) image f (h .0) long refl refl refl))
+    (h .0, rw z (opens (d .plan) image f (h .0) long refl refl refl))
+
+pub power-cut : PowerCut
+power-cut d image e =
+    let h = format-opens d image e in
+    survives (d .plan) (h .0) image (calls.format d image) (h .1)
+
+pub never-foreign : NeverForeign
+never-foreign d image e cs m n =
+    let h = format-opens d image e in
+    image-small (d .plan) (h .0) image (calls.format d image) (h .1) (take n (closedBy m cs))
 
 start-accepts : (p : Plan) → calls.start p .number ≡ 0 → (startNumber p ≡ 0) × (calls.start p .device ≡ asStarted p)
 unfolding calls.start

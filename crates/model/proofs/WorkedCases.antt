@@ -2,26 +2,26 @@
 use mathlib.Core.Path.{refl}
 use Rattle.model.specs.Marker.{meaning, direction, tornBits, torn}
 use Rattle.model.specs.Layout.{base, get, put, copyOf, fresh, formatted}
-use Rattle.model.specs.Refusals.{badCount, badWidths, badJob, first, startNumber, formatNumber, wakeNumber, stepNumber, cutNumber, inspectNumber, readNumber, beginNumber}
+use Rattle.model.specs.Refusals.{badCount, badWidths, badJob, first, startNumber, formatNumber, wakeNumber, stepNumber, cutNumber, inspectNumber, readNumber, anyForeign, beginNumber}
 use Rattle.model.specs.Stores.{copying, writeStores, cleanupStores, stored}
 use Rattle.model.specs.Calls as calls
 use Rattle.model.specs.Ledger.{opening, markerOf, told, writeMarker, cleanupMarker, saving, accepted, fed, tells, after}
 use Rattle.model.specs.PowerCut.{call, run, answers}
 use Rattle.model.specs.Drive.{driveNumber, drive}
 use Rattle.model.specs.Cases.{EveryCase}
-use Rattle.model.specs.Edges.{EveryRefusal, EveryOutcome, EveryStart, EveryPart, EveryEntry, EveryInspection, trace}
+use Rattle.model.specs.Edges.{EveryRefusal, EveryOutcome, EveryStart, EveryPart, EveryEntry, ForeignTold, EveryInspection, trace}
 
 -- C1 to C12
 pub every-case : EveryCase
-unfolding meaning direction tornBits torn base get put fresh formatted badCount badWidths badJob first startNumber formatNumber wakeNumber stepNumber cutNumber beginNumber copying writeStores cleanupStores stored calls.next calls.imageAfter calls.cleanupAmong calls.phaseAfter calls.start calls.format calls.begin calls.step calls.wake calls.cut opening markerOf told writeMarker cleanupMarker saving accepted fed tells after call run answers driveNumber drive
+unfolding meaning direction tornBits torn base get put fresh formatted badCount badWidths badJob first startNumber formatNumber wakeNumber stepNumber cutNumber anyForeign beginNumber copying writeStores cleanupStores stored calls.next calls.imageAfter calls.cleanupAmong calls.phaseAfter calls.start calls.format calls.begin calls.step calls.wake calls.cut opening markerOf told writeMarker cleanupMarker saving accepted fed tells after call run answers driveNumber drive
 every-case = refl
 
 pub every-refusal : EveryRefusal
-unfolding base get badCount badWidths badJob first startNumber formatNumber wakeNumber stepNumber cutNumber inspectNumber readNumber beginNumber calls.start calls.format calls.begin calls.step calls.wake calls.cut
+unfolding meaning base get badCount badWidths badJob first startNumber formatNumber wakeNumber stepNumber cutNumber inspectNumber readNumber anyForeign beginNumber calls.start calls.format calls.begin calls.step calls.wake calls.cut
 every-refusal = refl
 
 pub every-outcome : EveryOutcome
-unfolding meaning direction tornBits torn base get put fresh formatted badCount badWidths badJob first formatNumber wakeNumber stepNumber cutNumber beginNumber copying writeStores cleanupStores stored calls.next calls.imageAfter calls.cleanupAmong calls.phaseAfter calls.format calls.begin calls.step calls.wake calls.cut call trace
+unfolding meaning direction tornBits torn base get put fresh formatted badCount badWidths badJob first formatNumber wakeNumber stepNumber cutNumber anyForeign beginNumber copying writeStores cleanupStores stored calls.next calls.imageAfter calls.cleanupAmong calls.phaseAfter calls.format calls.begin calls.step calls.wake calls.cut call trace
 every-outcome = refl
 
 pub every-start : EveryStart
@@ -33,8 +33,12 @@ unfolding base get copyOf badCount badWidths badJob first readNumber calls.read
 every-part = refl
 
 pub every-entry : EveryEntry
-unfolding tornBits torn badCount badWidths badJob first wakeNumber stepNumber cutNumber beginNumber opening markerOf told writeMarker cleanupMarker saving accepted fed after
+unfolding meaning tornBits torn badCount badWidths badJob first wakeNumber stepNumber cutNumber anyForeign beginNumber opening markerOf told writeMarker cleanupMarker saving accepted fed after
 every-entry = refl
+
+pub foreign-told : ForeignTold
+unfolding meaning badCount badWidths badJob first wakeNumber anyForeign beginNumber markerOf told accepted fed tells
+foreign-told = refl
 
 pub every-inspection : EveryInspection
 unfolding base get badCount badWidths badJob first inspectNumber calls.lowestBad calls.inspect

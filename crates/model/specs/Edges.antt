@@ -14,7 +14,7 @@ use Rattle.model.specs.declared.Plan.{Plan}
 use Rattle.model.specs.Refusals.{Job, cold, ready, writing, recovering, readNumber, inspectNumber}
 use Rattle.model.specs.Calls.{Device, Answer, Outcome, outcome, view, zeroPayload}
 use Rattle.model.specs.Calls as calls
-use Rattle.model.specs.Ledger.{Call, begin, step, cut, wake, Ledger, opening, after}
+use Rattle.model.specs.Ledger.{Call, begin, step, cut, wake, Ledger, opening, tells, after}
 use Rattle.model.specs.PowerCut.{call, run}
 
 -- ---- Refusals. A row has a situation, in which whatever a later row mends is still wrong, and the number of each call there.
@@ -110,6 +110,13 @@ refusals =
     ∷ row (at 2 1 Ready (marked 2) 0 (9 ∷ 9 ∷ [])) (numbers 0 5 5 5 0 0 8 8)
     ∷ row (at 2 1 Ready (1 ∷ 0 ∷ 0 ∷ 0 ∷ 0 ∷ 0 ∷ 0 ∷ 0 ∷ []) 1 (9 ∷ [])) (numbers 0 5 5 5 0 0 8 8)
     ∷ row (at 2 1 Ready (0 ∷ 0 ∷ 0 ∷ 0 ∷ 0 ∷ 1 ∷ 0 ∷ 0 ∷ []) 1 (9 ∷ [])) (numbers 0 5 5 5 0 0 0 0)
+    -- 14: any unit's marker, after 5; begin and read give 8
+    ∷ row (at 2 1 Cold (marked 7) 0 (9 ∷ 9 ∷ [])) (numbers 0 0 0 5 0 0 5 5)
+    ∷ row (at 2 1 Cold (8 ∷ 0 ∷ 0 ∷ 0 ∷ 0 ∷ 1 ∷ 0 ∷ 0 ∷ []) 0 (9 ∷ 9 ∷ [])) (numbers 0 0 14 5 0 0 5 5)
+    ∷ row (at 2 1 Cold (1 ∷ 0 ∷ 0 ∷ 0 ∷ 0 ∷ 255 ∷ 0 ∷ 0 ∷ []) 0 (9 ∷ 9 ∷ [])) (numbers 0 0 14 5 0 0 5 5)
+    ∷ row (at 2 1 Ready (marked 8) 0 (9 ∷ 9 ∷ [])) (numbers 0 5 5 5 0 0 8 8)
+    -- a foreign byte that is no unit's marker
+    ∷ row (at 1 1 Cold (1 ∷ 8 ∷ 8 ∷ 8 ∷ 8 ∷ 8 ∷ 0 ∷ 0 ∷ []) 0 (9 ∷ 9 ∷ [])) (numbers 0 0 0 5 0 0 5 5)
     -- the widest unit, and a byte after the units
     ∷ row (at 3 256 Ready (replicate 5 0 ++ (1 ∷ replicate 516 0)) 1 (replicate 256 9)) (numbers 0 5 5 5 0 0 0 0)
     ∷ []
@@ -190,11 +197,11 @@ outcomes =
     ∷ one (call (cut 77) (gives Ready held fresh0 fresh1)) (gives Cold zeroPayload fresh0 fresh1)
     ∷ one (call (cut 77) (gives Cold held fresh0 fresh1)) (gives Cold zeroPayload fresh0 fresh1)
     -- two bad units, the lower one first: X copies A to B, A copies B to A
-    ∷ one (call wake (gives Cold held (64 ∷ 1 ∷ 2 ∷ 3 ∷ 4 ∷ []) (2 ∷ 5 ∷ 6 ∷ [])))
-    (cleaning (Recovering 0 0 AToB) (64 ∷ 1 ∷ 2 ∷ 3 ∷ 4 ∷ []) (2 ∷ 5 ∷ 6 ∷ []))
-    ∷ pair (trace 5 (cleaning (Recovering 0 0 AToB) (64 ∷ 1 ∷ 2 ∷ 3 ∷ 4 ∷ []) (2 ∷ 5 ∷ 6 ∷ [])))
-    (cleaning (Recovering 0 1 AToB) (64 ∷ 1 ∷ 2 ∷ 1 ∷ 4 ∷ []) (2 ∷ 5 ∷ 6 ∷ [])
-    ∷ cleaning (Recovering 0 2 AToB) (64 ∷ 1 ∷ 2 ∷ 1 ∷ 2 ∷ []) (2 ∷ 5 ∷ 6 ∷ [])
+    ∷ one (call wake (gives Cold held (7 ∷ 1 ∷ 2 ∷ 3 ∷ 4 ∷ []) (2 ∷ 5 ∷ 6 ∷ [])))
+    (cleaning (Recovering 0 0 AToB) (7 ∷ 1 ∷ 2 ∷ 3 ∷ 4 ∷ []) (2 ∷ 5 ∷ 6 ∷ []))
+    ∷ pair (trace 5 (cleaning (Recovering 0 0 AToB) (7 ∷ 1 ∷ 2 ∷ 3 ∷ 4 ∷ []) (2 ∷ 5 ∷ 6 ∷ [])))
+    (cleaning (Recovering 0 1 AToB) (7 ∷ 1 ∷ 2 ∷ 1 ∷ 4 ∷ []) (2 ∷ 5 ∷ 6 ∷ [])
+    ∷ cleaning (Recovering 0 2 AToB) (7 ∷ 1 ∷ 2 ∷ 1 ∷ 2 ∷ []) (2 ∷ 5 ∷ 6 ∷ [])
     ∷ cleaning (Recovering 1 0 BToA) (1 ∷ 1 ∷ 2 ∷ 1 ∷ 2 ∷ []) (2 ∷ 5 ∷ 6 ∷ [])
     ∷ cleaning (Recovering 1 1 BToA) (1 ∷ 1 ∷ 2 ∷ 1 ∷ 2 ∷ []) (2 ∷ 6 ∷ 6 ∷ [])
     ∷ cleaning Ready (1 ∷ 1 ∷ 2 ∷ 1 ∷ 2 ∷ []) (1 ∷ 6 ∷ 6 ∷ [])
@@ -204,6 +211,13 @@ outcomes =
     (cleaning Ready (2 ∷ 1 ∷ 2 ∷ 3 ∷ 4 ∷ []) (1 ∷ 5 ∷ 5 ∷ []) ∷ [])
     ∷ one (call wake (gives Cold held fresh0 (4 ∷ 5 ∷ 6 ∷ []))) (cleaning (Recovering 1 0 AToB) fresh0 (4 ∷ 5 ∷ 6 ∷ []))
     ∷ one (call wake (gives Cold held fresh0 fresh1)) (cleaning Ready fresh0 fresh1)
+    -- a foreign unit: wake leaves all as it came; a step takes it for X
+    ∷ one (call wake (gives Cold held (2 ∷ 1 ∷ 2 ∷ 3 ∷ 4 ∷ []) (8 ∷ 5 ∷ 6 ∷ [])))
+    (outcome 14 (device Cold held) (units (2 ∷ 1 ∷ 2 ∷ 3 ∷ 4 ∷ []) (8 ∷ 5 ∷ 6 ∷ [])))
+    ∷ pair (trace 2 (cleaning (Recovering 0 2 BToA) (255 ∷ 3 ∷ 4 ∷ 3 ∷ 4 ∷ []) (200 ∷ 5 ∷ 6 ∷ [])))
+    (cleaning (Recovering 1 0 AToB) (1 ∷ 3 ∷ 4 ∷ 3 ∷ 4 ∷ []) (200 ∷ 5 ∷ 6 ∷ [])
+    ∷ cleaning (Recovering 1 1 AToB) (1 ∷ 3 ∷ 4 ∷ 3 ∷ 4 ∷ []) (200 ∷ 5 ∷ 5 ∷ [])
+    ∷ [])
     -- a refused call gives back the device and the image as they came
     ∷ one (call step (gives Ready held fresh0 fresh1)) (outcome 5 (device Ready held) (units fresh0 fresh1))
     ∷ []
@@ -270,6 +284,8 @@ EveryEntry =
     ∷ noted (write3 ∷ step ∷ step ∷ step ∷ step ∷ step ∷ [])
     ∷ noted (write3 ∷ step ∷ cut 0 ∷ wake ∷ [])
     ∷ noted (write3 ∷ step ∷ cut 0 ∷ wake ∷ step ∷ step ∷ [])
+    ∷ noted (write3 ∷ step ∷ step ∷ cut 4 ∷ wake ∷ step ∷ cut 1 ∷ [])
+    ∷ noted (write3 ∷ step ∷ step ∷ cut 4 ∷ wake ∷ step ∷ cut 1 ∷ wake ∷ [])
     ∷ []
     ≡ entry ready (replicate 256 0) 0 1 (0 ∷ [])
     ∷ entry ready (replicate 256 0) 0 1 (0 ∷ [])
@@ -284,7 +300,18 @@ EveryEntry =
     ∷ entry ready (3 ∷ []) 1 1 (3 ∷ [])
     ∷ entry (recovering 1 0) (3 ∷ []) 1 2 (0 ∷ [])
     ∷ entry ready (3 ∷ []) 1 1 (0 ∷ [])
+    -- Ticket 4: 7, the highest marker that a list leaves, is no foreign one
+    ∷ entry cold (3 ∷ []) 1 7 (3 ∷ [])
+    ∷ entry (recovering 1 0) (3 ∷ []) 1 7 (3 ∷ [])
     ∷ []
+
+-- ---- Ticket 4: "refusals that tickets add count there and in the ledger as 01's". No list leaves a ledger with this marker:
+-- its wake is refused with 14 and leaves it Cold.
+abbrev foreignEntry : Ledger
+foreignEntry = record { job = cold; payload = zeroPayload; unit = 1; marker = 8; saved = λ u. [] }
+
+abbrev pub ForeignTold : Type 0
+ForeignTold = tells plan21 foreignEntry (wake ∷ write3 ∷ []) ≡ 14 ∷ 5 ∷ []
 
 -- ---- What inspect says: none bad, one or the other, both, a marker of no meaning, and an image that is a byte short.
 abbrev says : List ℕ → Inspection

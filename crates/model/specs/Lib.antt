@@ -6,6 +6,7 @@ pub mod Stores
 pub mod Calls
 pub mod Ledger
 pub mod PowerCut
+pub mod Foreign
 pub mod Drive
 pub mod Cases
 pub mod Edges

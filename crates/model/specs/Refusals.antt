@@ -9,7 +9,7 @@ use lib.ListN.{length}
 use Rattle.model.specs.declared.Plan.{Plan}
 unfoldable pub use Rattle.model.specs.Plans.{badCount, badWidths}
 use Rattle.model.specs.Plans.{width}
-use Rattle.model.specs.Marker.{OK}
+use Rattle.model.specs.Marker.{OK, meaning, isForeign}
 
 -- A phase without its direction: "a phase (as above, without direction)" is what the ledger keeps.
 pub data Job : Type 0 where
@@ -80,8 +80,14 @@ startNumber p = first (planRow p)
 unfoldable pub formatNumber : View → ℕ
 formatNumber v = first (deviceRow v ++ (5 when not (isCold (v .job)) ∷ []))
 
+-- Ticket 4: "14 when any unit's marker is foreign; wake tests it after 5."
+unfoldable pub anyForeign : (ℕ → ℕ) → ℕ → Bool
+anyForeign marker zero = false
+anyForeign marker (suc k) = isForeign (meaning (marker k)) || anyForeign marker k
+
 unfoldable pub wakeNumber : View → ℕ
-wakeNumber v = first (deviceRow v ++ (5 when not (isCold (v .job)) ∷ []))
+wakeNumber v =
+    first (deviceRow v ++ (5 when not (isCold (v .job)) ∷ 14 when anyForeign (v .marker) (v .plan .count) ∷ []))
 
 unfoldable pub stepNumber : View → ℕ
 stepNumber v = first (deviceRow v ++ (5 when (isCold (v .job) || isReady (v .job)) ∷ []))

@@ -1,7 +1,7 @@
 // The types that the save store's meaning speaks of: the plan, the phase, the marker, inspect's answer.
 // The meaning stands in specs/; specs/PowerCut.antt has the power-cut theorem's statement.
 ghost use mathlib.Core.Path.{_≡_};
-ghost use Rattle.model.specs.Marker.{meaning};
+ghost use Rattle.model.specs.Marker.{meaning, isForeign};
 
 // Units numbered from 0, each with its width in bytes. Widths past `count` are not looked at.
 pub struct Plan {
@@ -43,6 +43,7 @@ pub enum Marker {
     WritingToA,
     WritingToB,
     Corrupted,
+    Foreign,
 }
 
 impl Marker {
@@ -52,6 +53,9 @@ impl Marker {
 
     pub const B: u8 = 4;
 
+    // From here on a byte is foreign.
+    pub const FOREIGN: u8 = 8;
+
     pub fn classify(byte: u8) -> Marker
         ensures { λ r. ⌜ r ≡ meaning byte ⌝ }
     {
@@ -59,7 +63,21 @@ impl Marker {
             Marker::OK => Marker::Clean,
             Marker::A => Marker::WritingToA,
             Marker::B => Marker::WritingToB,
+            Marker::FOREIGN..=255 => Marker::Foreign,
             _ => Marker::Corrupted,
+        }
+    }
+
+    // Left by another product: no store of this one, completed or torn, leaves such a byte.
+    pub fn is_foreign(self) -> bool
+        ensures { λ r. ⌜ r ≡ isForeign self ⌝ }
+    {
+        match self {
+            Marker::Clean => false,
+            Marker::WritingToA => false,
+            Marker::WritingToB => false,
+            Marker::Corrupted => false,
+            Marker::Foreign => true,
         }
     }
 }

@@ -66,28 +66,26 @@ module _ (p : Plan) (phase : Phase) (image : List ℕ) where
   unfolding formatNumber
   format-number k wrong e h = e ∙ ap numbered h
 
-  pub wake-number : (k : ℕ) (wrong : Bool) → k ≡ numbered wrong → wrong ≡ not (isCold (jobOf phase))
-      → k ≡ wakeNumber (viewOf p phase image)
-  unfolding wakeNumber
-  wake-number k wrong e h = e ∙ ap numbered h
-
   pub step-number : (k : ℕ) (wrong : Bool) → k ≡ numbered wrong → wrong ≡ (isCold (jobOf phase) || isReady (jobOf phase))
       → k ≡ stepNumber (viewOf p phase image)
   unfolding stepNumber
   step-number k wrong e h = e ∙ ap numbered h
 
-  -- begin and read: 5, and then the rest of their row
-  pub ready-refused : (k : ℕ) (wrong : Bool) → k ≡ numbered wrong → wrong ≡ not (isReady (jobOf phase)) → ¬ (k ≡ 0)
-      → (rest : List Refusal) → k ≡ first (deviceRow (viewOf p phase image) ++ (5 when not (isReady (jobOf phase)) ∷ rest))
-  ready-refused k wrong e h z rest =
-      let is : k ≡ numbered (not (isReady (jobOf phase))) = e ∙ ap numbered h in
-      is ∙ sym (first-refused (deviceRow (viewOf p phase image) ++ (5 when not (isReady (jobOf phase)) ∷ [])) rest (λ q. z (is ∙ q)))
+  -- past 5, the rest of a row: t is the test of the phase
+  pub phase-refused : {t : Bool} (k : ℕ) (wrong : Bool) → k ≡ numbered wrong → wrong ≡ t → ¬ (k ≡ 0)
+      → (rest : List Refusal) → k ≡ first (deviceRow (viewOf p phase image) ++ (5 when t ∷ rest))
+  phase-refused {t} k wrong e h z rest =
+      let is : k ≡ numbered t = e ∙ ap numbered h in
+      is ∙ sym (first-refused (deviceRow (viewOf p phase image) ++ (5 when t ∷ [])) rest (λ q. z (is ∙ q)))
 
-  pub ready-passed : (k : ℕ) (wrong : Bool) → k ≡ numbered wrong → wrong ≡ not (isReady (jobOf phase)) → k ≡ 0
-      → (rest : List Refusal) → first (deviceRow (viewOf p phase image) ++ (5 when not (isReady (jobOf phase)) ∷ rest)) ≡ first rest
-  ready-passed k wrong e h z rest =
-      first-passed (deviceRow (viewOf p phase image) ++ (5 when not (isReady (jobOf phase)) ∷ [])) rest refl
-      (sym (e ∙ ap numbered h) ∙ z)
+  pub phase-passed : {t : Bool} (k : ℕ) (wrong : Bool) → k ≡ numbered wrong → wrong ≡ t → k ≡ 0
+      → (rest : List Refusal) → first (deviceRow (viewOf p phase image) ++ (5 when t ∷ rest)) ≡ first rest
+  phase-passed {t} k wrong e h z rest =
+      first-passed (deviceRow (viewOf p phase image) ++ (5 when t ∷ [])) rest refl (sym (e ∙ ap numbered h) ∙ z)
+
+  pub wake-live : (k : ℕ) → k ≡ wakeNumber (viewOf p phase image) → k ≡ 0 → Live p phase image
+  unfolding wakeNumber
+  wake-live k e z = live k _ e z
 
   -- 8, as the code reads the marker: b is where the unit begins
   pub marker-bad : (u b : ℕ) → b ≡ base p u → ¬ (getD image b 0 ≡ OK) → not (eqb (get p image u marker) OK) ≡ true

@@ -6,7 +6,7 @@ ghost use mathlib.Core.List.{[], _∷_, _++_};
 ghost use mathlib.Core.Bool.{not, _||_};
 ghost use Prim.Native.Nat.{_≤_};
 ghost use lib.ListN.{length};
-ghost use Rattle.model.specs.Refusals.{isCold, isReady, _when_, first, deviceRow, readNumber};
+ghost use Rattle.model.specs.Refusals.{isCold, isReady, _when_, first, deviceRow, readNumber, wakeNumber};
 ghost use Rattle.model.specs.Calls.{jobOf, viewOf, view, padded, start, format, begin, step, wake, cut, read, inspect};
 ghost use Rattle.layout.specs.Seen.{seen};
 ghost use Rattle.store.specs.Modelled.{modelled, blanked, held, answer, unitNumber, Gives, Starts};
@@ -15,6 +15,7 @@ use layout::base_of;
 use layout::device_number;
 use layout::plan_number;
 use layout::width_of;
+use mirror::any_foreign;
 use mirror::cleanup_from;
 use mirror::format_units;
 use mirror::make_store;
@@ -121,6 +122,20 @@ fn read_refusal(plan: Plan, phase: Phase, image: &[u8], unit: u16) -> u16
     ensures { λ r. ⌜ r ≡ readNumber (viewOf plan phase (now (image .entry))) unit ⌝ }
 {
     unit_number(plan, phase, image, unit, width_of(plan, unit) as usize)
+}
+
+// Refusals 1 to 5, and 14, of wake.
+fn wake_refusal(plan: Plan, phase: Phase, image: &[u8]) -> u16
+    ensures { λ r. ⌜ r ≡ wakeNumber (viewOf plan phase (now (image .entry))) ⌝ }
+{
+    let number = phase_number(plan, phase, image.len(), not_cold(phase));
+    if number != 0 {
+        return number;
+    }
+    if any_foreign(plan, image) {
+        return 14;
+    }
+    0
 }
 
 // A payload as the device holds it: zeros after it.
@@ -322,13 +337,14 @@ impl Device {
         }
     }
 
-    // Begins the cleanup of the lowest unit whose marker isn't OK, or is Ready. Stores nothing. Refused: 1 to 5.
+    // Begins the cleanup of the lowest unit whose marker isn't OK, or is Ready. Stores nothing. Refused: 1 to 5, and 14 where a
+    // marker is foreign.
     pub fn wake(self, image: &[u8]) -> Answer
         ensures { λ r. ⌜ Gives r (now (image .entry)) (wake (modelled self) (now (image .entry))) ⌝ }
     {
         let plan = self.plan;
         let phase = self.phase;
-        let number = phase_number(plan, phase, image.len(), not_cold(phase));
+        let number = wake_refusal(plan, phase, image);
         if number != 0 {
             return Answer {
                 number: number,

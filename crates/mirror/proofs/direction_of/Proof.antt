@@ -20,6 +20,9 @@ enum-told-3 c = search needs
 enum-told-4 : tie.Need-enum-told-4
 enum-told-4 c = search needs
 
+enum-told-5 : tie.Need-enum-told-5
+enum-told-5 c = search needs
+
 returns : tie.Need-returns
 unfolding direction
 returns c = sym (ap way (sym (c .before .before .classify .ensures) ∙ c .enum-told .given .1))
@@ -36,6 +39,10 @@ returns-4 : tie.Need-returns-4
 unfolding direction
 returns-4 c = sym (ap way (sym (c .before .before .classify .ensures) ∙ c .enum-told4 .given .1))
 
+returns-5 : tie.Need-returns-5
+unfolding direction
+returns-5 c = sym (ap way (sym (c .before .before .classify .ensures) ∙ c .enum-told5 .given .1))
+
 pub direction-of-spec : {M : Type 1} → statement M
 direction-of-spec =
     tie.close
@@ -45,7 +52,9 @@ direction-of-spec =
     enum-told-2
     enum-told-3
     enum-told-4
+    enum-told-5
     returns
     returns-2
     returns-3
-    returns-4)
+    returns-4
+    returns-5)

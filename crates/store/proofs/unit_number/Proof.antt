@@ -7,7 +7,7 @@ use denote.Ref.{now}
 use borrow.Author.Tests.{le-leb, lt-leb, eq-eqb, ne-eqb}
 use borrow.Author.Needs.{needs}
 use Rattle.model.proofs.RefusalLaws.{first-stop, first-skip, first-none}
-use Rattle.store.proofs.Laws.{ready-refused, ready-passed, marker-bad, marker-good, live, unit-inside}
+use Rattle.store.proofs.Laws.{phase-refused, phase-passed, marker-bad, marker-good, live, unit-inside}
 use Rattle.store.proofs.unit_number.Statement.{statement}
 use Rattle.store.proofs.unit_number.Tie as tie
 
@@ -19,11 +19,11 @@ phase-number-requires c κs = search needs
 
 returns : tie.Need-returns
 returns c = let a = c .before .before .before .before .args in
-    ready-refused (a .plan) (a .phase) (now (a .image)) _ _ (c .before .phase-number .ensures) (c .before .before .not-ready .ensures) (c .if1 .taken) _
+    phase-refused (a .plan) (a .phase) (now (a .image)) _ _ (c .before .phase-number .ensures) (c .before .before .not-ready .ensures) (c .if1 .taken) _
 
 returns-2 : tie.Need-returns-2
 returns-2 c = let a = c .before .before .before .before .before .before .args in
-    sym (ready-passed (a .plan) (a .phase) (now (a .image)) _ _ (c .before .before .before .phase-number .ensures) (c .before .before .before .before .not-ready .ensures) (c .before .before .if1 .left) _
+    sym (phase-passed (a .plan) (a .phase) (now (a .image)) _ _ (c .before .before .before .phase-number .ensures) (c .before .before .before .before .not-ready .ensures) (c .before .before .if1 .left) _
     ∙ first-stop 6 _ _ (le-leb _ _ (c .if2 .taken)))
 
 width-of-requires : tie.Need-width-of-requires
@@ -34,7 +34,7 @@ cast-if3 c = search needs
 
 returns-3 : tie.Need-returns-3
 returns-3 c = let a = c .before .before .before .before .before .before .before .before .args in
-    sym (ready-passed (a .plan) (a .phase) (now (a .image)) _ _ (c .before .before .before .before .before .phase-number .ensures) (c .before .before .before .before .before .before .not-ready .ensures) (c .before .before .before .before .if1 .left) _
+    sym (phase-passed (a .plan) (a .phase) (now (a .image)) _ _ (c .before .before .before .before .before .phase-number .ensures) (c .before .before .before .before .before .before .not-ready .ensures) (c .before .before .before .before .if1 .left) _
     ∙ first-skip 6 _ _ (lt-leb _ _ (c .before .before .if2 .left))
     ∙ first-stop 7 _ _ (ap not (ne-eqb _ _ (rw (c .before .width-of .ensures) at (c .if3 .taken)))))
 
@@ -48,14 +48,14 @@ shared-slice-read-if4 c = let a = c .before .before .before .before .before .bef
 
 returns-4 : tie.Need-returns-4
 returns-4 c = let a = c .before .before .before .before .before .before .before .before .before .before .before .args in
-    sym (ready-passed (a .plan) (a .phase) (now (a .image)) _ _ (c .before .before .before .before .before .before .before .before .phase-number .ensures) (c .before .before .before .before .before .before .before .before .before .not-ready .ensures) (c .before .before .before .before .before .before .before .if1 .left) _
+    sym (phase-passed (a .plan) (a .phase) (now (a .image)) _ _ (c .before .before .before .before .before .before .before .before .phase-number .ensures) (c .before .before .before .before .before .before .before .before .before .not-ready .ensures) (c .before .before .before .before .before .before .before .if1 .left) _
     ∙ first-skip 6 _ _ (lt-leb _ _ (c .before .before .before .before .before .if2 .left))
     ∙ first-skip 7 _ _ (ap not (eq-eqb _ _ (rw (c .before .before .before .before .width-of .ensures) at (c .before .before .before .if3 .left))))
     ∙ first-stop 8 _ [] (marker-bad (a .plan) (a .phase) (now (a .image)) (a .unit) _ (c .before .before .base-of .ensures .0) (c .if4 .taken)))
 
 returns-5 : tie.Need-returns-5
 returns-5 c = let a = c .before .before .before .before .before .before .before .before .before .before .before .args in
-    sym (ready-passed (a .plan) (a .phase) (now (a .image)) _ _ (c .before .before .before .before .before .before .before .before .phase-number .ensures) (c .before .before .before .before .before .before .before .before .before .not-ready .ensures) (c .before .before .before .before .before .before .before .if1 .left) _
+    sym (phase-passed (a .plan) (a .phase) (now (a .image)) _ _ (c .before .before .before .before .before .before .before .before .phase-number .ensures) (c .before .before .before .before .before .before .before .before .before .not-ready .ensures) (c .before .before .before .before .before .before .before .if1 .left) _
     ∙ first-skip 6 _ _ (lt-leb _ _ (c .before .before .before .before .before .if2 .left))
     ∙ first-skip 7 _ _ (ap not (eq-eqb _ _ (rw (c .before .before .before .before .width-of .ensures) at (c .before .before .before .if3 .left))))
     ∙ first-skip 8 _ [] (marker-good (a .plan) (a .phase) (now (a .image)) (a .unit) _ (c .before .before .base-of .ensures .0) (c .if4 .left)) ∙ first-none)
