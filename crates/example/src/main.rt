@@ -32,6 +32,10 @@ fn ride(image: &mut [u8]) {
     let ready = second_save(saved, &mut image[..]);
     io::write_all(STDOUT_FILENO, ready.read(&image[..], 0));
     io::write_all(STDOUT_FILENO, b"\n");
+    // 11, 3 and 5; the torn store doesn't count
+    if ready.stores == 19 {
+        io::write_all(STDOUT_FILENO, b"19 stores\n");
+    }
 }
 
 fn main() {

@@ -9,7 +9,7 @@ use Rattle.model.specs.Ledger.{opening, markerOf, told, writeMarker, cle
 use Rattle.model.specs.PowerCut.{call, run, answers}
 use Rattle.model.specs.Drive.{driveNumber, drive}
 use Rattle.model.specs.Cases.{EveryCase}
-use Rattle.model.specs.Edges.{EveryRefusal, EveryOutcome, EveryStart, EveryPart, EveryEntry, ForeignTold, EveryInspection, trace}
+use Rattle.model.specs.Edges.{EveryRefusal, EveryOutcome, EveryStart, EveryPart, EveryEntry, ForeignTold, EveryInspection, EveryCount, trace}
 
 -- C1 to C12
 pub every-case : EveryCase
@@ -21,7 +21,7 @@ unfolding meaning base get badCount badWidths badJob first startNumber formatNum
 every-refusal = refl
 
 pub every-outcome : EveryOutcome
-unfolding meaning direction tornBits torn base get put fresh formatted badCount badWidths badJob first formatNumber wakeNumber stepNumber cutNumber anyForeign beginNumber copying writeStores cleanupStores stored calls.next calls.imageAfter calls.cleanupAmong calls.phaseAfter calls.format calls.begin calls.step calls.wake calls.cut call trace
+unfolding meaning direction tornBits torn base get put fresh formatted badCount badWidths badJob first formatNumber wakeNumber stepNumber cutNumber anyForeign beginNumber copying writeStores cleanupStores stored calls.next calls.imageAfter calls.cleanupAmong calls.phaseAfter calls.counted calls.format calls.begin calls.step calls.wake calls.cut call trace
 every-outcome = refl
 
 pub every-start : EveryStart
@@ -43,3 +43,7 @@ foreign-told = refl
 pub every-inspection : EveryInspection
 unfolding base get badCount badWidths badJob first inspectNumber calls.lowestBad calls.inspect
 every-inspection = refl
+
+pub every-count : EveryCount
+unfolding meaning direction tornBits torn base get put fresh formatted badCount badWidths badJob first startNumber formatNumber wakeNumber stepNumber cutNumber anyForeign beginNumber copying writeStores cleanupStores stored calls.next calls.imageAfter calls.cleanupAmong calls.phaseAfter calls.counted calls.start calls.format calls.begin calls.step calls.wake calls.cut
+every-count = refl

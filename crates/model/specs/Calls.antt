@@ -16,11 +16,13 @@ use Rattle.model.specs.Layout.{copyA, marker, width, total, get, copyOf,
 use Rattle.model.specs.Refusals.{Job, cold, ready, writing, recovering, View, writeTotal, cleanupTotal, startNumber, formatNumber, beginNumber, stepNumber, wakeNumber, cutNumber, readNumber, inspectNumber}
 use Rattle.model.specs.Stores.{Store, writeStores, cleanupStores, stored}
 
--- "The device is a plan, a 256-byte payload and a phase." The library's struct has the same fields.
+-- "The device is a plan, a 256-byte payload and a phase." Ticket 5: "a 32-bit count of completed stores". The library's struct has
+-- the same fields.
 pub record Device : Type 0 where
   pub plan : Plan
   pub payload : List ℕ
   pub phase : Phase
+  pub stores : ℕ
 
 -- what start hands back
 pub record Answer : Type 0 where
@@ -40,32 +42,39 @@ outcome n d image = record { number = n; device = d; image = image }
 abbrev pub zeroPayload : List ℕ
 zeroPayload = replicate 256 0
 
--- "Start (from a plan) keeps the plan as given, all eight widths, with Cold and a zero payload."
+-- "Start (from a plan) keeps the plan as given, all eight widths, with Cold and a zero payload." "Start and format set it to 0"
 abbrev pub asStarted : Plan → Device
-asStarted p = record { plan = p; payload = zeroPayload; phase = Cold }
+asStarted p = record { plan = p; payload = zeroPayload; phase = Cold; stores = 0 }
 
 -- "payload zero, phase Ready"
 abbrev pub asFormatted : Device → Device
-asFormatted d = record { plan = d .plan; payload = zeroPayload; phase = Ready }
+asFormatted d = record { plan = d .plan; payload = zeroPayload; phase = Ready; stores = 0 }
 
 -- "the payload goes into the device, zeros after it; phase Writing, 0 made"
 abbrev pub padded : List ℕ → List ℕ
 padded payload = payload ++ replicate (256 - length payload) 0
 
 abbrev pub asBegun : ℕ → List ℕ → Device → Device
-asBegun u held d = record { plan = d .plan; payload = held; phase = Writing u 0 }
+asBegun u held d = record { plan = d .plan; payload = held; phase = Writing u 0; stores = d .stores }
+
+-- Ticket 5: "each completed step adds 1, and it holds at 4,294,967,295"
+abbrev pub mostStores : ℕ
+mostStores = 4294967295
+
+unfoldable pub counted : ℕ → ℕ
+counted n = cond (ltb n mostStores) (suc n) n
 
 -- "The payload stays."
 abbrev pub asStepped : Phase → Device → Device
-asStepped phase d = record { plan = d .plan; payload = d .payload; phase = phase }
+asStepped phase d = record { plan = d .plan; payload = d .payload; phase = phase; stores = counted (d .stores) }
 
 -- "The payload stays as it is."
 abbrev pub asWoken : Phase → Device → Device
-asWoken phase d = record { plan = d .plan; payload = d .payload; phase = phase }
+asWoken phase d = record { plan = d .plan; payload = d .payload; phase = phase; stores = d .stores }
 
--- "The device is then Cold with a zero payload."
+-- "The device is then Cold with a zero payload." Ticket 5: "A torn store doesn't count; cut keeps the number"
 abbrev pub asCut : Device → Device
-asCut d = record { plan = d .plan; payload = zeroPayload; phase = Cold }
+asCut d = record { plan = d .plan; payload = zeroPayload; phase = Cold; stores = d .stores }
 
 -- ---- What a call is judged by.
 abbrev pub jobOf : Phase → Job

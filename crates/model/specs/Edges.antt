@@ -1,5 +1,5 @@
 -- Edges that the power-cut theorem cannot see, as tables and facts: every number of every call; whole outcomes, also on images
--- that no list from a formatted device leaves; the ledger's own entries; what inspect says.
+-- that no list from a formatted device leaves; the ledger's own entries; what inspect says; the stores counted.
 -- proofs/WorkedCases.antt has the theorems that the definitions give every row.
 use Prim.Native.Nat.{ℕ, zero, suc}
 use mathlib.Core.Path.{_≡_}
@@ -59,6 +59,7 @@ at k w phase image u payload =
         plan = record { count = k; widths = 2 ∷ w ∷ 1 ∷ replicate 5 0 };
         payload = zeroPayload;
         phase = phase;
+        stores = 7;
       };
       image = image;
       unit = u;
@@ -131,8 +132,11 @@ plan21 = record { count = 2; widths = 2 ∷ 1 ∷ replicate 6 0 }
 abbrev held : List ℕ
 held = 5 ∷ 6 ∷ replicate 254 0
 
+abbrev counting : ℕ → Phase → List ℕ → Device
+counting n phase payload = record { plan = plan21; payload = payload; phase = phase; stores = n }
+
 abbrev device : Phase → List ℕ → Device
-device phase payload = record { plan = plan21; payload = payload; phase = phase }
+device phase payload = counting 0 phase payload
 
 -- unit 0 as given, unit 1 as given, and a byte after the units
 abbrev units : List ℕ → List ℕ → List ℕ
@@ -143,6 +147,11 @@ fresh0 = 1 ∷ 0 ∷ 0 ∷ 0 ∷ 0 ∷ []
 
 abbrev fresh1 : List ℕ
 fresh1 = 1 ∷ 0 ∷ 0 ∷ []
+
+-- outcomes one after the other, the first of them with n stores counted
+abbrev pub from : ℕ → List Outcome → List Outcome
+from n [] = []
+from n (o ∷ os) = outcome (o .number) (counting n (o .device .phase) (o .device .payload)) (o .image) ∷ from (suc n) os
 
 -- the outcome of each of n steps
 unfoldable pub trace : ℕ → Outcome → List Outcome
@@ -170,6 +179,10 @@ pair c e = record { computed = c; expected = e }
 abbrev one : Outcome → Outcome → Pair
 one c e = pair (c ∷ []) (e ∷ [])
 
+-- n steps, each of which counts one store
+abbrev traced : ℕ → Outcome → List Outcome → Pair
+traced n o expected = pair (trace n o) (from 1 expected)
+
 abbrev pub outcomes : List Pair
 outcomes =
     -- format: whatever stood there
@@ -177,7 +190,7 @@ outcomes =
     -- begin: zeros after the payload, no store
     ∷ one (calls.begin (device Ready held) (units fresh0 fresh1) 1 (3 ∷ [])) (gives (Writing 1 0) (3 ∷ replicate 255 0) fresh0 fresh1)
     -- the seven stores of a write of width 2; the payload stays
-    ∷ pair (trace 7 (wrote 0 fresh0))
+    ∷ traced 7 (wrote 0 fresh0)
     (wrote 1 (2 ∷ 0 ∷ 0 ∷ 0 ∷ 0 ∷ [])
     ∷ wrote 2 (2 ∷ 5 ∷ 0 ∷ 0 ∷ 0 ∷ [])
     ∷ wrote 3 (2 ∷ 5 ∷ 6 ∷ 0 ∷ 0 ∷ [])
@@ -199,7 +212,7 @@ outcomes =
     -- two bad units, the lower one first: X copies A to B, A copies B to A
     ∷ one (call wake (gives Cold held (7 ∷ 1 ∷ 2 ∷ 3 ∷ 4 ∷ []) (2 ∷ 5 ∷ 6 ∷ [])))
     (cleaning (Recovering 0 0 AToB) (7 ∷ 1 ∷ 2 ∷ 3 ∷ 4 ∷ []) (2 ∷ 5 ∷ 6 ∷ []))
-    ∷ pair (trace 5 (cleaning (Recovering 0 0 AToB) (7 ∷ 1 ∷ 2 ∷ 3 ∷ 4 ∷ []) (2 ∷ 5 ∷ 6 ∷ [])))
+    ∷ traced 5 (cleaning (Recovering 0 0 AToB) (7 ∷ 1 ∷ 2 ∷ 3 ∷ 4 ∷ []) (2 ∷ 5 ∷ 6 ∷ []))
     (cleaning (Recovering 0 1 AToB) (7 ∷ 1 ∷ 2 ∷ 1 ∷ 4 ∷ []) (2 ∷ 5 ∷ 6 ∷ [])
     ∷ cleaning (Recovering 0 2 AToB) (7 ∷ 1 ∷ 2 ∷ 1 ∷ 2 ∷ []) (2 ∷ 5 ∷ 6 ∷ [])
     ∷ cleaning (Recovering 1 0 BToA) (1 ∷ 1 ∷ 2 ∷ 1 ∷ 2 ∷ []) (2 ∷ 5 ∷ 6 ∷ [])
@@ -207,14 +220,14 @@ outcomes =
     ∷ cleaning Ready (1 ∷ 1 ∷ 2 ∷ 1 ∷ 2 ∷ []) (1 ∷ 6 ∷ 6 ∷ [])
     ∷ [])
     -- only higher units are looked at; wake leaves a good unit be; B copies A to B
-    ∷ pair (trace 1 (cleaning (Recovering 1 1 AToB) (2 ∷ 1 ∷ 2 ∷ 3 ∷ 4 ∷ []) (2 ∷ 5 ∷ 5 ∷ [])))
+    ∷ traced 1 (cleaning (Recovering 1 1 AToB) (2 ∷ 1 ∷ 2 ∷ 3 ∷ 4 ∷ []) (2 ∷ 5 ∷ 5 ∷ []))
     (cleaning Ready (2 ∷ 1 ∷ 2 ∷ 3 ∷ 4 ∷ []) (1 ∷ 5 ∷ 5 ∷ []) ∷ [])
     ∷ one (call wake (gives Cold held fresh0 (4 ∷ 5 ∷ 6 ∷ []))) (cleaning (Recovering 1 0 AToB) fresh0 (4 ∷ 5 ∷ 6 ∷ []))
     ∷ one (call wake (gives Cold held fresh0 fresh1)) (cleaning Ready fresh0 fresh1)
     -- a foreign unit: wake leaves all as it came; a step takes it for X
     ∷ one (call wake (gives Cold held (2 ∷ 1 ∷ 2 ∷ 3 ∷ 4 ∷ []) (8 ∷ 5 ∷ 6 ∷ [])))
     (outcome 14 (device Cold held) (units (2 ∷ 1 ∷ 2 ∷ 3 ∷ 4 ∷ []) (8 ∷ 5 ∷ 6 ∷ [])))
-    ∷ pair (trace 2 (cleaning (Recovering 0 2 BToA) (255 ∷ 3 ∷ 4 ∷ 3 ∷ 4 ∷ []) (200 ∷ 5 ∷ 6 ∷ [])))
+    ∷ traced 2 (cleaning (Recovering 0 2 BToA) (255 ∷ 3 ∷ 4 ∷ 3 ∷ 4 ∷ []) (200 ∷ 5 ∷ 6 ∷ []))
     (cleaning (Recovering 1 0 AToB) (1 ∷ 3 ∷ 4 ∷ 3 ∷ 4 ∷ []) (200 ∷ 5 ∷ 6 ∷ [])
     ∷ cleaning (Recovering 1 1 AToB) (1 ∷ 3 ∷ 4 ∷ 3 ∷ 4 ∷ []) (200 ∷ 5 ∷ 5 ∷ [])
     ∷ [])
@@ -230,7 +243,7 @@ abbrev answered : ℕ → ℕ → List ℕ → Answer
 answered n k widths =
     record {
       number = n;
-      device = record { plan = record { count = k; widths = widths }; payload = replicate 256 0; phase = Cold };
+      device = record { plan = record { count = k; widths = widths }; payload = replicate 256 0; phase = Cold; stores = 0 };
     }
 
 abbrev start : ℕ → List ℕ → Answer
@@ -330,3 +343,31 @@ EveryInspection =
     ∷ says (replicate 7 1)
     ∷ []
     ≡ AllOk ∷ Suspect 0 ∷ Suspect 1 ∷ Suspect 0 ∷ Suspect 1 ∷ Refused 3 ∷ []
+
+-- ---- The stores counted after each call of a device that has counted n.
+abbrev good : List ℕ
+good = units fresh0 fresh1
+
+abbrev torn0 : List ℕ
+torn0 = units (2 ∷ 0 ∷ 0 ∷ 0 ∷ 0 ∷ []) fresh1
+
+abbrev busy : ℕ → Device
+busy n = counting n (Writing 0 1) held
+
+abbrev pub EveryCount : Type 0
+EveryCount =
+    calls.start plan21 .device .stores
+    ∷ calls.format (counting 7 Cold held) good .device .stores
+    -- a format that is refused keeps it
+    ∷ calls.format (counting 7 Ready held) good .device .stores
+    ∷ calls.begin (counting 7 Ready held) good 1 (3 ∷ []) .device .stores
+    ∷ calls.wake (counting 7 Cold held) torn0 .device .stores
+    -- a step, one that is refused, and a torn store
+    ∷ calls.step (busy 7) torn0 .device .stores
+    ∷ calls.step (counting 7 Ready held) good .device .stores
+    ∷ calls.cut (busy 7) torn0 255 .device .stores
+    -- at the top it holds
+    ∷ calls.step (busy 4294967294) torn0 .device .stores
+    ∷ calls.step (busy 4294967295) torn0 .device .stores
+    ∷ []
+    ≡ 0 ∷ 0 ∷ 7 ∷ 7 ∷ 7 ∷ 8 ∷ 7 ∷ 7 ∷ 4294967295 ∷ 4294967295 ∷ []

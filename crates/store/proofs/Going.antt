@@ -15,7 +15,7 @@ use Rattle.model.specs.Marker.{OK, completed}
 use Rattle.model.specs.Layout.{marker, width, total, get}
 use Rattle.model.specs.Refusals.{isCold, isReady, badJob, writeTotal, cleanupTotal, _when_, first, deviceRow, cutNumber, stepNumber}
 use Rattle.model.specs.Stores.{Store, stored}
-use Rattle.model.specs.Calls.{Device, Outcome, outcome, asStepped, jobOf, viewOf, unlessRefused, next, imageAfter, cleanupAmong, phaseAfter, step}
+use Rattle.model.specs.Calls.{Device, Outcome, outcome, asStepped, counted, jobOf, viewOf, unlessRefused, next, imageAfter, cleanupAmong, phaseAfter, step}
 use Rattle.model.proofs.Compare.{Same, equal, differ, same}
 use Rattle.model.proofs.RefusalLaws.{first-skip, first-stop, first-none, first-refused, first-passed, false-or, job-writing, job-recovering, cut-any}
 use Rattle.model.proofs.StoreLaws.{write-goes-on, write-ends, cleanup-goes-on, cleanup-ends}
@@ -85,18 +85,18 @@ module _ (count made : ℕ) (d : Device) (image : List ℕ) where
   unfolding steps
   steps-end h = let n : count - made ≡ 0 = omega arith in rw n
 
-module _ (p : Plan) (payload : List ℕ) (phase : Phase) (image : List ℕ) where
+module _ (p : Plan) (payload : List ℕ) (phase : Phase) (n : ℕ) (image : List ℕ) where
   abbrev here : Device
-  here = modelled (held p payload phase)
+  here = modelled (held p payload phase n)
 
   abbrev idle : Bool
   idle = isCold (jobOf phase) || isReady (jobOf phase)
 
-  by-number : (n : ℕ) → stepNumber (viewOf p phase image) ≡ n
+  by-number : (k : ℕ) → stepNumber (viewOf p phase image) ≡ k
       → step here image
-      ≡ unlessRefused n here image (outcome 0 (asStepped (phaseAfter p (imageAfter completed here image) phase) here) (imageAfter completed here image))
+      ≡ unlessRefused k here image (outcome 0 (asStepped (phaseAfter p (imageAfter completed here image) phase) here) (imageAfter completed here image))
   unfolding step
-  by-number n e = rw e
+  by-number k e = rw e
 
   -- refusals 1 to 4, at the first step
   pub first-refuses : (k count : ℕ) → k ≡ first (deviceRow (seen p phase (length image))) → ¬ (k ≡ 0) → ¬ (count ≡ 0)
@@ -117,11 +117,11 @@ module _ (p : Plan) (payload : List ℕ) (phase : Phase) (image : List ℕ) wher
         let is = by-number 5 (first-passed (deviceRow (viewOf p phase image)) (5 when idle ∷ []) refl h ∙ first-stop 5 idle [] e) in
         steps-stop count made here image more (λ q. absurd (omega (arith, ap (λ (o : Outcome). o .number) is))) ∙ is
 
-    -- image′ and phase′ are what the code comes to
-    pub row-goes-on : idle ≡ false → (image′ : List ℕ) (phase′ : Phase)
-        → image′ ≡ stored p image completed (next p payload image phase) → phase′ ≡ phaseAfter p image′ phase
-        → steps (count - made) here image ≡ steps (count - (made + 1)) (modelled (held p payload phase′)) image′
+    -- image′, phase′ and n′ are what the code comes to
+    pub row-goes-on : idle ≡ false → (image′ : List ℕ) (phase′ : Phase) (n′ : ℕ)
+        → image′ ≡ stored p image completed (next p payload image phase) → phase′ ≡ phaseAfter p image′ phase → n′ ≡ counted n
+        → steps (count - made) here image ≡ steps (count - (made + 1)) (modelled (held p payload phase′ n′)) image′
     unfolding stepNumber imageAfter
-    row-goes-on e image′ phase′ ei ep =
+    row-goes-on e image′ phase′ n′ ei ep en =
         let is = by-number 0 (first-passed (deviceRow (viewOf p phase image)) (5 when idle ∷ []) refl h ∙ first-skip 5 idle [] e ∙ first-none) in
-        steps-go count made here image more (ap (λ (o : Outcome). o .number) is) ∙ rw (is, ep, ei)
+        steps-go count made here image more (ap (λ (o : Outcome). o .number) is) ∙ rw (is, ep, ei, en)

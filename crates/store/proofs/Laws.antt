@@ -144,12 +144,12 @@ module _ (p : Plan) (phase : Phase) (image : List ℕ) where
 
 -- ---- start: the code's device is that of the plan none, which is all zeros, or of the plan given
 pub start-refused : (p : Plan) (d : Device) (k n : ℕ) → k ≡ n → ¬ (k ≡ 0)
-    → modelled d ≡ blanked (record { count = 0; widths = replicate 8 0 }) Cold
+    → modelled d ≡ blanked (record { count = 0; widths = replicate 8 0 }) Cold 0
     → Starts (record { number = k; device = d }) (startAnswer n p)
 start-refused p d k zero e h is = absurd (h e)
 start-refused p d k (suc n) e h is = record { number = e; device = is }
 
-pub start-accepted : (p : Plan) (d : Device) (k n : ℕ) → k ≡ n → k ≡ 0 → modelled d ≡ blanked p Cold
+pub start-accepted : (p : Plan) (d : Device) (k n : ℕ) → k ≡ n → k ≡ 0 → modelled d ≡ blanked p Cold 0
     → Starts (record { number = 0; device = d }) (startAnswer n p)
 start-accepted p d k zero e z is = record { number = refl; device = is }
 start-accepted p d k (suc n) e z is = absurd (omega arith)

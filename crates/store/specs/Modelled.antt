@@ -14,18 +14,18 @@ use Rattle.model.specs.Refusals.{View, isReady, _when_, first, deviceRow}
 use Rattle.model.specs.Calls as model
 
 abbrev pub modelled : Device → model.Device
-modelled d = record { plan = d .plan; payload = d .payload; phase = d .phase }
+modelled d = record { plan = d .plan; payload = d .payload; phase = d .phase; stores = d .stores }
 
 -- a device by its parts, and an answer with it
-abbrev pub held : Plan → List ℕ → Phase → Device
-held p payload phase = record { plan = p; payload = payload; phase = phase }
+abbrev pub held : Plan → List ℕ → Phase → ℕ → Device
+held p payload phase stores = record { plan = p; payload = payload; phase = phase; stores = stores }
 
-abbrev pub answer : ℕ → Plan → List ℕ → Phase → Answer
-answer n p payload phase = record { number = n; device = held p payload phase }
+abbrev pub answer : ℕ → Plan → List ℕ → Phase → ℕ → Answer
+answer n p payload phase stores = record { number = n; device = held p payload phase stores }
 
 -- start, format and cut leave a zero payload
-abbrev pub blanked : Plan → Phase → model.Device
-blanked p phase = record { plan = p; payload = model.zeroPayload; phase = phase }
+abbrev pub blanked : Plan → Phase → ℕ → model.Device
+blanked p phase stores = record { plan = p; payload = model.zeroPayload; phase = phase; stores = stores }
 
 -- the row of begin, with the payload's size
 abbrev pub unitNumber : View → ℕ → ℕ → ℕ

@@ -7,7 +7,7 @@ ghost use mathlib.Core.Bool.{not, _||_};
 ghost use Prim.Native.Nat.{_≤_};
 ghost use lib.ListN.{length};
 ghost use Rattle.model.specs.Refusals.{isCold, isReady, _when_, first, deviceRow, readNumber, wakeNumber};
-ghost use Rattle.model.specs.Calls.{jobOf, viewOf, view, padded, start, format, begin, step, wake, cut, read, inspect};
+ghost use Rattle.model.specs.Calls.{jobOf, viewOf, view, padded, counted, start, format, begin, step, wake, cut, read, inspect};
 ghost use Rattle.layout.specs.Seen.{seen};
 ghost use Rattle.store.specs.Modelled.{modelled, blanked, held, answer, unitNumber, Gives, Starts};
 ghost use Rattle.store.specs.Steps.{steps};
@@ -26,16 +26,22 @@ use model::Marker;
 use model::Phase;
 use model::Plan;
 
+// `stores` counts the completed stores, for the memory chip's rating.
 pub struct Device {
     pub plan: Plan,
     pub payload: [u8; 256],
     pub phase: Phase,
+    pub stores: u32,
 }
 
+// The device stands first: with the count in it, a number before it would leave a gap, and a pass would copy the device twice more.
 pub struct Answer {
-    pub number: u16,
     pub device: Device,
+    pub number: u16,
 }
+
+// The count of stores holds here.
+const MOST_STORES: u32 = 4294967295;
 
 // Wrong phase for format and wake.
 fn not_cold(phase: Phase) -> bool
@@ -153,33 +159,46 @@ fn zero_filled(payload: &[u8]) -> [u8; 256]
 }
 
 // A device with a zero payload.
-fn blank(plan: Plan, phase: Phase) -> Device
-    ensures { λ r. ⌜ modelled r ≡ blanked plan phase ⌝ }
+fn blank(plan: Plan, phase: Phase, stores: u32) -> Device
+    ensures { λ r. ⌜ modelled r ≡ blanked plan phase stores ⌝ }
 {
     Device {
         plan: plan,
         payload: [0u8; 256],
         phase: phase,
+        stores: stores,
     }
 }
 
-// What steps come to: the number of the last, and the phase after it. Plan and payload stay.
+// One completed store more; the count holds at its largest.
+fn count_one(stores: u32) -> u32
+    ensures { λ r. ⌜ r ≡ counted stores ⌝ }
+{
+    if MOST_STORES <= stores {
+        return stores;
+    }
+    stores + 1
+}
+
+// What steps come to: the number of the last, and the phase and the count after it. Plan and payload stay.
 struct Advanced {
     number: u16,
     phase: Phase,
+    stores: u32,
 }
 
 // A step, on the parts of a device.
-fn advance(plan: Plan, payload: &[u8], phase: Phase, image: &mut [u8]) -> Advanced
+fn advance(plan: Plan, payload: &[u8], phase: Phase, stores: u32, image: &mut [u8]) -> Advanced
     requires { ⌜ length (now payload) ≡ 256 ⌝ }
-    ensures { λ r. ⌜ Gives (answer (r .number) plan (now (payload .entry)) (r .phase)) (now (image .exit))
-        (step (modelled (held plan (now (payload .entry)) phase)) (now (image .entry))) ⌝ }
+    ensures { λ r. ⌜ Gives (answer (r .number) plan (now (payload .entry)) (r .phase) (r .stores)) (now (image .exit))
+        (step (modelled (held plan (now (payload .entry)) phase stores)) (now (image .entry))) ⌝ }
 {
     let number = phase_number(plan, phase, image.len(), idle(phase));
     if number != 0 {
         return Advanced {
             number: number,
             phase: phase,
+            stores: stores,
         };
     }
     make_store(plan, payload, phase, &mut image[..]);
@@ -187,19 +206,28 @@ fn advance(plan: Plan, payload: &[u8], phase: Phase, image: &mut [u8]) -> Advanc
     Advanced {
         number: 0,
         phase: next,
+        stores: count_one(stores),
     }
 }
 
 // Up to `count` steps. A device that refusals 1 to 4 let pass stays so, so they are looked at once.
-fn advance_by(plan: Plan, payload: &[u8], from: Phase, image: &mut [u8], count: u16) -> Advanced
+fn advance_by(
+    plan: Plan,
+    payload: &[u8],
+    from: Phase,
+    since: u32,
+    image: &mut [u8],
+    count: u16,
+) -> Advanced
     requires { ⌜ length (now payload) ≡ 256 ⌝ }
-    ensures { λ r. ⌜ Gives (answer (r .number) plan (now (payload .entry)) (r .phase)) (now (image .exit))
-        (steps count (modelled (held plan (now (payload .entry)) from)) (now (image .entry))) ⌝ }
+    ensures { λ r. ⌜ Gives (answer (r .number) plan (now (payload .entry)) (r .phase) (r .stores)) (now (image .exit))
+        (steps count (modelled (held plan (now (payload .entry)) from since)) (now (image .entry))) ⌝ }
 {
     if count == 0 {
         return Advanced {
             number: 0,
             phase: from,
+            stores: since,
         };
     }
     let number = device_number(plan, from, image.len());
@@ -207,24 +235,29 @@ fn advance_by(plan: Plan, payload: &[u8], from: Phase, image: &mut [u8], count: 
         return Advanced {
             number: number,
             phase: from,
+            stores: since,
         };
     }
     let mut reached = from;
+    let mut stores = since;
     let mut made: u16 = 0;
     while made < count {
         if idle(reached) {
             return Advanced {
                 number: 5,
                 phase: reached,
+                stores: stores,
             };
         }
         make_store(plan, payload, reached, &mut image[..]);
         reached = phase_after(plan, reached, &image[..]);
+        stores = count_one(stores);
         made = made + 1;
     }
     Advanced {
         number: 0,
         phase: reached,
+        stores: stores,
     }
 }
 
@@ -241,12 +274,12 @@ impl Device {
             };
             return Answer {
                 number: number,
-                device: blank(none, Phase::Cold),
+                device: blank(none, Phase::Cold, 0),
             };
         }
         Answer {
             number: 0,
-            device: blank(plan, Phase::Cold),
+            device: blank(plan, Phase::Cold, 0),
         }
     }
 
@@ -266,7 +299,7 @@ impl Device {
         format_units(plan, &mut image[..]);
         Answer {
             number: 0,
-            device: blank(plan, Phase::Ready),
+            device: blank(plan, Phase::Ready, 0),
         }
     }
 
@@ -276,6 +309,7 @@ impl Device {
     {
         let plan = self.plan;
         let phase = self.phase;
+        let stores = self.stores;
         let number = unit_number(plan, phase, image, unit, payload.len());
         if number != 0 {
             return Answer {
@@ -293,6 +327,7 @@ impl Device {
                     unit: unit,
                     made: 0,
                 },
+                stores: stores,
             },
         }
     }
@@ -304,15 +339,18 @@ impl Device {
         let plan = self.plan;
         let payload = self.payload;
         let phase = self.phase;
-        let after = advance(plan, &payload, phase, &mut image[..]);
+        let stores = self.stores;
+        let after = advance(plan, &payload, phase, stores, &mut image[..]);
         let number = after.number;
         let next = after.phase;
+        let made = after.stores;
         Answer {
             number: number,
             device: Device {
                 plan: plan,
                 payload: payload,
                 phase: next,
+                stores: made,
             },
         }
     }
@@ -324,15 +362,18 @@ impl Device {
         let plan = self.plan;
         let payload = self.payload;
         let phase = self.phase;
-        let after = advance_by(plan, &payload, phase, &mut image[..], count);
+        let stores = self.stores;
+        let after = advance_by(plan, &payload, phase, stores, &mut image[..], count);
         let number = after.number;
         let next = after.phase;
+        let made = after.stores;
         Answer {
             number: number,
             device: Device {
                 plan: plan,
                 payload: payload,
                 phase: next,
+                stores: made,
             },
         }
     }
@@ -352,6 +393,7 @@ impl Device {
             };
         }
         let payload = self.payload;
+        let kept = self.stores;
         let next = cleanup_from(plan, image, 0);
         Answer {
             number: 0,
@@ -359,6 +401,7 @@ impl Device {
                 plan: plan,
                 payload: payload,
                 phase: next,
+                stores: kept,
             },
         }
     }
@@ -377,10 +420,11 @@ impl Device {
             };
         }
         let payload = self.payload;
+        let stores = self.stores;
         tear_store(plan, &payload, phase, &mut image[..], m);
         Answer {
             number: 0,
-            device: blank(plan, Phase::Cold),
+            device: blank(plan, Phase::Cold, stores),
         }
     }
 

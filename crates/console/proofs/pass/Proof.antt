@@ -134,14 +134,14 @@ module _ {M : Type 1} (𝓤 : URA M) (H : Heap 𝓤) (A : Atoms 𝓤) (W : Given
         let fields = LL.owed S.the-type S′.the-laws r _ is in
         land ! (from ! (stop !)) (init ! 15 refl (LL.lawful S.the-type S′.the-laws 𝓤 H A W .typed r _ is .0)) $
         rewrite ! 15 (λ (v : Val). ‵ (fat fullShare S′.mir l₄ 0 v)) (ap only (LL.tells S.the-type S′.the-laws r _ is)) refl $
-        assigns ! (of-opd ! (load ! (from ! (fld ! refl (stop !))) (look-in ! 15 (sub ! 1 refl (whole !))))) (from ! (hop ! (look ! 21 refl) (stop !))) (store ! 6 refl (LL.lawful T.the-type T′.the-laws 𝓤 H A W .typed (r .device) _ (fields .1 .0) .0)) $
-        assigns ! (of-opd ! (load ! (from ! (fld ! refl (stop !))) (look-in ! 15 (sub ! 0 refl (whole !))))) (from ! (stop !)) (init ! 23 refl (tt, record { fits = fields .0 .1 })) $
+        assigns ! (of-opd ! (load ! (from ! (fld ! refl (stop !))) (look-in ! 15 (sub ! 0 refl (whole !))))) (from ! (hop ! (look ! 21 refl) (stop !))) (store ! 6 refl (LL.lawful T.the-type T′.the-laws 𝓤 H A W .typed (r .device) _ (fields .0) .0)) $
+        assigns ! (of-opd ! (load ! (from ! (fld ! refl (stop !))) (look-in ! 15 (sub ! 1 refl (whole !))))) (from ! (stop !)) (init ! 23 refl (tt, record { fits = fields .1 .0 .1 })) $
         -- the borrow is closed at the new device
         move ! (6 ∷ []) $ use1 W (‵ (cellAt fullShare (R .mir) (mach (r .device) ∷ []) b o)) (W .laws .at-raw fullShare T′.mir b o (mach (r .device))) $
-        move ! (7 ∷ []) $ drop ! $ owned ! R (Is R) ((LL.makes T.the-type T′.the-plain) 𝓤 H A) (r .device) _ (fields .1 .0) $ move ! (1 ∷ 0 ∷ 8 ∷ 9 ∷ 10 ∷ []) $ closes ! tt R (r .device) (mach (r .device) ∷ []) b o $
+        move ! (7 ∷ []) $ drop ! $ owned ! R (Is R) ((LL.makes T.the-type T′.the-plain) 𝓤 H A) (r .device) _ (fields .0) $ move ! (1 ∷ 0 ∷ 8 ∷ 9 ∷ 10 ∷ []) $ closes ! tt R (r .device) (mach (r .device) ∷ []) b o $
         returns ! (look ! 21 refl) $ forget ! 9 refl $ forget ! 11 refl $ forget ! 13 refl $ forget ! 15 refl $ forget ! 17 refl $ forget ! 19 refl $ forget ! 21 refl $
         move ! (21 ∷ 22 ∷ []) $ free1 ! $ move ! (19 ∷ 20 ∷ []) $ free1 ! $ move ! (17 ∷ 18 ∷ []) $ free1 ! $ move ! (15 ∷ 16 ∷ []) $ free1 ! $ move ! (13 ∷ 14 ∷ []) $ free1 ! $ move ! (11 ∷ 12 ∷ []) $ free1 ! $ move ! (9 ∷ 10 ∷ []) $ free1 ! $ free0 ! $
-        keep ! (0 ∷ 1 ∷ 2 ∷ 4 ∷ 5 ∷ []) $ by ! (exits r (zs .1 .0) e l (fields .0 .1)))))))))))))))))
+        keep ! (0 ∷ 1 ∷ 2 ∷ 4 ∷ 5 ∷ []) $ by ! (exits r (zs .1 .0) e l (fields .1 .0 .1)))))))))))))))))
 
 module _ {M : Type 1} (𝓤 : URA M) (H : Heap 𝓤) (A : Atoms 𝓤) (W : Given 𝓤 H A) (at-mem : Memory → SProp 𝓤) (run : Routine → Fun 𝓤) where
   pass-walks : (C : Calls 𝓤 H) (Λ : Loops 𝓤 H) → FmC 𝓤 H (W .laws) C → Triple 𝓤 (C #store·step) (StepC 𝓤 H A at-mem run) → Walks 𝓤 H A pass.ended stayed (WpFn 𝓤 H C Λ code.function) (pass.clauses 𝓤 H A at-mem run)

@@ -159,10 +159,10 @@ module _ {M : Type 1} (𝓤 : URA M) (H : Heap 𝓤) (A : Atoms 𝓤) (W : Given
         -- the lifetime is ended, and the local comes back at the last device
         drop ! $ split ! $ lft-end ! tt $ move ! (0 ∷ 6 ∷ 4 ∷ []) $ use3 W (later (‵ (mem R .lies (zs .0) l₃ 0))) (ref-back 𝓤 H A W R (α ∷ []) δ (zs .0) l₃ 0) $ await ! tt $
         use1 W (given (Is R (zs .0) (mach (zs .0) ∷ [])) (‵ (fat fullShare T′.mir l₃ 0 (mach (zs .0))))) (lies-out 𝓤 H A W (zs .0) l₃) $ learn ! (λ g′.
-        let made : Is S.the-row (answer r (zs .0)) (mach-answer (answer r (zs .0)) ∷ []) = LL.owes S.the-type S′.the-laws (answer r (zs .0)) ((refl, is .1), (g′, tt)) in
+        let made : Is S.the-row (answer r (zs .0)) (mach-answer (answer r (zs .0)) ∷ []) = LL.owes S.the-type S′.the-laws (answer r (zs .0)) (g′, ((refl, is .1), tt)) in
         -- [_3; the token; the last list; true; true; _8; …; _7; …; _6; …; _5; …; _4; …; (what frees _3); _2; …; _1; …; room for _0; …]
         assigns ! (of-opd ! (load ! (from ! (stop !)) (look ! 0 refl))) (from ! (stop !)) (init ! 5 refl (LL.lawful T.the-type T′.the-laws 𝓤 H A W .typed (zs .0) _ g′ .0)) $
-        assigns ! (agg ! (and-then ! (load ! (from ! (stop !)) (look ! 13 refl)) (and-then ! (load ! (from ! (stop !)) (look ! 5 refl)) (no-more !)))) (from ! (stop !)) (init ! 20 refl (LL.lawful S.the-type S′.the-laws 𝓤 H A W .typed (answer r (zs .0)) _ made .0)) $
+        assigns ! (agg ! (and-then ! (load ! (from ! (stop !)) (look ! 5 refl)) (and-then ! (load ! (from ! (stop !)) (look ! 13 refl)) (no-more !)))) (from ! (stop !)) (init ! 20 refl (LL.lawful S.the-type S′.the-laws 𝓤 H A W .typed (answer r (zs .0)) _ made .0)) $
         returns ! (look ! 20 refl) $ forget ! 0 refl $ forget ! 5 refl $ forget ! 7 refl $ forget ! 9 refl $ forget ! 11 refl $ forget ! 13 refl $ forget ! 16 refl $ forget ! 18 refl $ forget ! 20 refl $
         move ! (20 ∷ 21 ∷ []) $ free1 ! $ move ! (18 ∷ 19 ∷ []) $ free1 ! $ move ! (16 ∷ 17 ∷ []) $ free1 ! $ move ! (0 ∷ 15 ∷ []) $ free1 ! $ move ! (12 ∷ 13 ∷ []) $ free1 ! $ move ! (10 ∷ 11 ∷ []) $ free1 ! $ move ! (8 ∷ 9 ∷ []) $ free1 ! $ move ! (6 ∷ 7 ∷ []) $ free1 ! $ move ! (4 ∷ 5 ∷ []) $ free1 ! $ free0 ! $
         keep ! (0 ∷ 1 ∷ []) $ by ! (exits r (zs .0) (zs .1 .0) e l made)))))))))))))))))))

@@ -1,5 +1,5 @@
 -- `store::advance` meets its contract: the store, and the phase after it.
-use mathlib.Core.Path.{refl, ap, _∙_}
+use mathlib.Core.Path.{refl, ap, ap₂, _∙_}
 use mathlib.Core.List.{List}
 use Prim.Native.Nat.{ℕ}
 use denote.Ref.{now}
@@ -20,7 +20,7 @@ phase-number-requires c κs = search needs
 returns : tie.Need-returns
 unfolding model.step
 returns c = let a = c .before .before .before .before .before .args in
-    refused (held (a .plan) (now (a .payload)) (a .phase)) (now (a .image)) _ _ _
+    refused (held (a .plan) (now (a .payload)) (a .phase) (a .stores)) (now (a .image)) _ _ _
     (step-number (a .plan) (a .phase) (now (a .image)) _ _ (c .before .phase-number .ensures) (c .before .before .idle .ensures)) (c .if1 .taken)
 
 make-store-requires : tie.Need-make-store-requires
@@ -32,24 +32,35 @@ phase-after-requires c κs = let a = c .before .before .before .before .before .
     live-stored (a .plan) (a .phase) (now (a .image)) _ completed _ (c .before .before .before .make-store .ensures)
     (live (a .plan) (a .phase) (now (a .image)) _ _ (c .before .before .before .before .before .before .phase-number .ensures) (c .before .before .before .before .before .if1 .left))
 
+count-one-requires : tie.Need-count-one-requires
+count-one-requires c κs = search needs
+
 same-length : tie.Need-same-length
 same-length c = search needs
 
 returns-2 : tie.Need-returns-2
 unfolding model.step model.imageAfter
-returns-2 c = let a = c .before .before .before .before .before .before .before .before .before .before .before .args in
-    let d = held (a .plan) (now (a .payload)) (a .phase) in
-    let made = c .before .before .before .before .make-store .ensures in
+returns-2 c = let a = c .before .before .before .before .before .before .before .before .before .before .before .before .args in
+    let d = held (a .plan) (now (a .payload)) (a .phase) (a .stores) in
+    let made = c .before .before .before .before .before .make-store .ensures in
+    let next = c .before .phase-after .ensures ∙ ap (λ (x : List ℕ). model.phaseAfter (d .plan) x (d .phase)) made in
     accepted _ _ d (now (a .image)) _ _ _
-    (step-number (a .plan) (a .phase) (now (a .image)) _ _ (c .before .before .before .before .before .before .before .phase-number .ensures) (c .before .before .before .before .before .before .before .before .idle .ensures)) (c .before .before .before .before .before .before .if1 .left)
+    (step-number (a .plan) (a .phase) (now (a .image)) _ _ (c .before .before .before .before .before .before .before .before .phase-number .ensures) (c .before .before .before .before .before .before .before .before .before .idle .ensures)) (c .before .before .before .before .before .before .before .if1 .left)
     (record {
       number = refl;
-      device =
-          ap (λ phase. model.asStepped phase (modelled d)) (c .phase-after .ensures ∙ ap (λ (x : List ℕ). model.phaseAfter (d .plan) x (d .phase)) made);
+      device = ap₂ (λ phase n. modelled (held (a .plan) (now (a .payload)) phase n)) next (c .count-one .ensures);
       image = made;
     })
 
 pub advance-spec : {M : Type 1} → statement M
 advance-spec =
     tie.close
-    (tie.spec idle-requires phase-number-requires returns make-store-requires phase-after-requires same-length returns-2)
+    (tie.spec
+    idle-requires
+    phase-number-requires
+    returns
+    make-store-requires
+    phase-after-requires
+    count-one-requires
+    same-length
+    returns-2)
