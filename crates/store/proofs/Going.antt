@@ -1,7 +1,7 @@
 -- Steps made one by one, until one is refused. A device that refusals 1 to 4 let pass stays so, so they are looked at once.
 use Prim.Native.Nat.{ℕ, zero, suc, _+_, _-_, _≤_, _<_}
 use mathlib.Core.Path.{_≡_, refl, ap, sym, _∙_}
-use mathlib.Core.List.{List, [], _∷_, _++_}
+use mathlib.Core.List.{List, [], _∷_}
 use mathlib.Core.Option.{Option}
 use mathlib.Core.Bool.{Bool, true, false, _||_}
 use native.Mathlib.Omega.{arith}
@@ -16,7 +16,7 @@ use Rattle.model.specs.Layout.{marker, width, total, get}
 use Rattle.model.specs.Refusals.{isCold, isReady, badJob, writeTotal, cleanupTotal, _when_, first, deviceRow, cutNumber, stepNumber}
 use Rattle.model.specs.Stores.{Store, stored}
 use Rattle.model.specs.Calls.{Device, Outcome, outcome, asStepped, counted, jobOf, viewOf, unlessRefused, next, imageAfter, cleanupAmong, phaseAfter, step}
-use Rattle.model.proofs.Compare.{Same, equal, differ, same}
+use Rattle.model.proofs.Compare.{equal, differ, same}
 use Rattle.model.proofs.RefusalLaws.{first-skip, first-stop, first-none, first-refused, first-passed, false-or, job-writing, job-recovering, cut-any}
 use Rattle.model.proofs.StoreLaws.{write-goes-on, write-ends, cleanup-goes-on, cleanup-ends}
 use Rattle.layout.specs.Seen.{seen}

@@ -1,31 +1,31 @@
 -- What the calls' proofs share: a refused call and an accepted one, against their definitions.
-use Prim.Native.Nat.{ℕ, zero, suc, _+_, _-_, _≤_, _<_}
+use Prim.Native.Nat.{ℕ, zero, suc, _+_, _-_, _≤_}
 use mathlib.Core.Path.{_≡_, refl, ap, ap₂, sym, _∙_}
-use mathlib.Core.List.{List, [], _∷_, _++_}
+use mathlib.Core.List.{List, [], _++_}
 use mathlib.Core.Option.{Option}
-use mathlib.Core.Bool.{Bool, true, false, not, _||_}
+use mathlib.Core.Bool.{not}
 use native.Mathlib.Omega.{arith}
-use lib.Dec.{eqb, leb}
-use lib.ListN.{length, getD, take, drop, replicate}
-use borrow.Author.Tests.{eq-eqb, ne-eqb, leb-false}
+use lib.Dec.{leb}
+use lib.ListN.{length, take, drop, replicate}
+use borrow.Author.Tests.{leb-false}
 use Rattle.store.specs.declared.Device.{Device}
 use Rattle.store.specs.declared.Answer.{Answer}
-use Rattle.store.specs.Modelled.{modelled, blanked, unitNumber, Gives, Starts}
+use Rattle.store.specs.Modelled.{modelled, blanked, Gives, Starts}
 use Rattle.model.specs.declared.Plan.{Plan}
 use Rattle.model.specs.declared.Inspection.the-variants.{Refused}
 use Rattle.model.specs.declared.Phase.{Phase}
 use Rattle.model.specs.declared.Phase.the-variants.{Cold}
-use Rattle.model.specs.Marker.{OK, End}
-use Rattle.model.specs.Layout.{copyA, marker, width, unitLength, base, get, copyOf}
-use Rattle.model.specs.Refusals.{View, isCold, isReady, _when_, Refusal, first, deviceRow, formatNumber, wakeNumber, stepNumber, cutNumber, inspectNumber, readNumber, beginNumber}
+use Rattle.model.specs.Marker.{End}
+use Rattle.model.specs.Layout.{copyA, width, unitLength, base, copyOf}
+use Rattle.model.specs.Refusals.{isReady, first, deviceRow, inspectNumber, readNumber, beginNumber}
 use Rattle.model.specs.Stores.{Store, stored}
 use Rattle.model.specs.Calls.{jobOf, viewOf, view, Outcome, unlessRefused, startAnswer, partUnlessRefused, cleanupFrom, inspection, inspect}
-use Rattle.model.proofs.RefusalLaws.{first-skip, first-rest, first-front, first-refused, first-passed, first-past, past, begin-says, width-bounds}
-use Rattle.model.proofs.LayoutLaws.{base-bound, length-stored}
-use Rattle.layout.specs.Seen.{seen}
+use Rattle.model.proofs.RefusalLaws.{first-past, past, begin-says, width-bounds}
+use Rattle.model.proofs.LayoutLaws.{length-stored}
 use Rattle.mirror.specs.Placed.{Live}
 use Rattle.mirror.proofs.Laws.{room}
-use Rattle.mirror.proofs.Search.{marker-at, cleaned, search-names}
+use Rattle.refusal.proofs.Laws.{live, unit-inside}
+use Rattle.mirror.proofs.Search.{cleaned, search-names}
 
 -- ---- k is the code's number, n the definition's
 pub refused : (d : Device) (image : List ℕ) (k n : ℕ) (o : Outcome) → k ≡ n → ¬ (k ≡ 0)
@@ -38,68 +38,8 @@ pub accepted : (r : Answer) (left : List ℕ) (d : Device) (image : List ℕ) (k
 accepted r left d image k zero o e z g = g
 accepted r left d image k (suc n) o e z g = absurd (omega arith)
 
--- ---- begin's row and read's row are one: at the unit's own width 7 does not hold
-pub begin-row : (v : View) (u : ℕ) (payload : List ℕ) → unitNumber v u (length payload) ≡ beginNumber v u payload
-unfolding beginNumber
-begin-row v u payload = refl
-
-pub read-row : (v : View) (u size : ℕ) → size ≡ width (v .plan) u → unitNumber v u size ≡ readNumber v u
-unfolding readNumber
-read-row v u size e =
-    rw (eq-eqb size (width (v .plan) u) e)
-    (first-rest _ _ _ (first-rest _ _ _ (first-rest _ _ _ (first-rest _ _ _ (first-rest _ _ _ (first-rest _ _ _
-    (first-skip 7 false _ refl)))))))
-
--- ---- the numbers that the code comes to
+-- ---- what a device and its image have
 module _ (p : Plan) (phase : Phase) (image : List ℕ) where
-  -- refusals 1 to 4, and 5 where the phase is wrong
-  abbrev numbered : Bool → ℕ
-  numbered wrong = first (deviceRow (seen p phase (length image)) ++ (5 when wrong ∷ []))
-
-  -- a device whose call is not refused is live
-  pub live : (k : ℕ) (rest : List Refusal) → k ≡ first (deviceRow (seen p phase (length image)) ++ rest) → k ≡ 0
-      → Live p phase image
-  live k rest e z = first-front (deviceRow (seen p phase (length image))) rest (sym e ∙ z)
-
-  pub format-number : (k : ℕ) (wrong : Bool) → k ≡ numbered wrong → wrong ≡ not (isCold (jobOf phase))
-      → k ≡ formatNumber (viewOf p phase image)
-  unfolding formatNumber
-  format-number k wrong e h = e ∙ ap numbered h
-
-  pub step-number : (k : ℕ) (wrong : Bool) → k ≡ numbered wrong → wrong ≡ (isCold (jobOf phase) || isReady (jobOf phase))
-      → k ≡ stepNumber (viewOf p phase image)
-  unfolding stepNumber
-  step-number k wrong e h = e ∙ ap numbered h
-
-  -- past 5, the rest of a row: t is the test of the phase
-  pub phase-refused : {t : Bool} (k : ℕ) (wrong : Bool) → k ≡ numbered wrong → wrong ≡ t → ¬ (k ≡ 0)
-      → (rest : List Refusal) → k ≡ first (deviceRow (viewOf p phase image) ++ (5 when t ∷ rest))
-  phase-refused {t} k wrong e h z rest =
-      let is : k ≡ numbered t = e ∙ ap numbered h in
-      is ∙ sym (first-refused (deviceRow (viewOf p phase image) ++ (5 when t ∷ [])) rest (λ q. z (is ∙ q)))
-
-  pub phase-passed : {t : Bool} (k : ℕ) (wrong : Bool) → k ≡ numbered wrong → wrong ≡ t → k ≡ 0
-      → (rest : List Refusal) → first (deviceRow (viewOf p phase image) ++ (5 when t ∷ rest)) ≡ first rest
-  phase-passed {t} k wrong e h z rest =
-      first-passed (deviceRow (viewOf p phase image) ++ (5 when t ∷ [])) rest refl (sym (e ∙ ap numbered h) ∙ z)
-
-  pub wake-live : (k : ℕ) → k ≡ wakeNumber (viewOf p phase image) → k ≡ 0 → Live p phase image
-  unfolding wakeNumber
-  wake-live k e z = live k _ e z
-
-  -- 8, as the code reads the marker: b is where the unit begins
-  pub marker-bad : (u b : ℕ) → b ≡ base p u → ¬ (getD image b 0 ≡ OK) → not (eqb (get p image u marker) OK) ≡ true
-  marker-bad u b e h = rw (ne-eqb (get p image u marker) OK (λ q. h (marker-at p image u b e ∙ q)))
-
-  pub marker-good : (u b : ℕ) → b ≡ base p u → getD image b 0 ≡ OK → not (eqb (get p image u marker) OK) ≡ false
-  marker-good u b e h = rw (eq-eqb (get p image u marker) OK (sym (marker-at p image u b e) ∙ h))
-
-  -- the whole unit lies in the image
-  pub unit-inside : Live p phase image → (u : ℕ) → u < p .count → base p u + unitLength (width p u) ≤ length image
-  unit-inside e u h =
-      let r = room p phase image e in
-      omega (arith, base-bound p (r .ok) u (p .count) h, r .long)
-
   -- what an accepted read and an accepted begin have
   pub read-inside : (k u : ℕ) → k ≡ readNumber (viewOf p phase image) u → k ≡ 0
       → base p u + unitLength (width p u) ≤ length image
@@ -108,14 +48,14 @@ module _ (p : Plan) (phase : Phase) (image : List ℕ) where
       let n : first (deviceRow (viewOf p phase image) ++ _) ≡ 0 = sym e ∙ z in
       let h₅ = first-past 4 (not (isReady (jobOf phase))) _ (past (viewOf p phase image) _ n .more) in
       let h₆ = first-past 5 (leb (p .count) u) _ (h₅ .1) in
-      unit-inside (live k _ e z) u (leb-false (p .count) u (h₆ .0))
+      unit-inside p phase image (live p phase image k _ e z) u (leb-false (p .count) u (h₆ .0))
 
   pub begin-narrow : (k u : ℕ) (payload : List ℕ) → k ≡ beginNumber (viewOf p phase image) u payload → k ≡ 0
       → length payload ≤ 256
   unfolding beginNumber
   begin-narrow k u payload e z =
       let began = begin-says (viewOf p phase image) u payload (sym e ∙ z) in
-      let r = room p phase image (live k _ e z) in
+      let r = room p phase image (live p phase image k _ e z) in
       omega (arith, began .size, width-bounds p (r .ok) u (began .unit) .1)
 
   -- the part that read hands out
@@ -126,14 +66,6 @@ module _ (p : Plan) (phase : Phase) (image : List ℕ) where
       let size : (b + 1 + w) - (b + 1) ≡ width p u = omega arith in
       let from : b + 1 ≡ base p u + (1 + 0) = omega arith in
       ap₂ (λ (n i : ℕ). take n (drop i image)) size from
-
-  pub cut-number : (k : ℕ) → k ≡ first (deviceRow (seen p phase (length image))) → k ≡ cutNumber (viewOf p phase image)
-  unfolding cutNumber
-  cut-number k e = e
-
-  pub inspect-number : (k : ℕ) → k ≡ first (deviceRow (seen p phase (length image))) → k ≡ inspectNumber (viewOf p phase image)
-  unfolding inspectNumber
-  inspect-number k e = e
 
   -- also after a store
   pub live-stored : (image′ : List ℕ) (e : End) (o : Option Store) → image′ ≡ stored p image e o → Live p phase image

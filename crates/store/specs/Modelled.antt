@@ -1,16 +1,11 @@
 -- The library's structs as the model's records, field by field, and what every call's contract says with them.
 use Prim.Native.Nat.{ℕ}
 use mathlib.Core.Path.{_≡_}
-use mathlib.Core.List.{List, [], _∷_, _++_}
-use mathlib.Core.Bool.{not}
-use lib.Dec.{eqb, leb}
+use mathlib.Core.List.{List}
 use Rattle.store.specs.declared.Device.{Device}
 use Rattle.store.specs.declared.Answer.{Answer}
 use Rattle.model.specs.declared.Plan.{Plan}
 use Rattle.model.specs.declared.Phase.{Phase}
-use Rattle.model.specs.Layout.{width}
-use Rattle.model.specs.Marker.{OK}
-use Rattle.model.specs.Refusals.{View, isReady, _when_, first, deviceRow}
 use Rattle.model.specs.Calls as model
 
 abbrev pub modelled : Device → model.Device
@@ -26,17 +21,6 @@ answer n p payload phase stores = record { number = n; device = held p payload p
 -- start, format and cut leave a zero payload
 abbrev pub blanked : Plan → Phase → ℕ → model.Device
 blanked p phase stores = record { plan = p; payload = model.zeroPayload; phase = phase; stores = stores }
-
--- the row of begin, with the payload's size
-abbrev pub unitNumber : View → ℕ → ℕ → ℕ
-unitNumber v u size =
-    first
-    (deviceRow v
-    ++ (5 when not (isReady (v .job))
-    ∷ 6 when leb (v .plan .count) u
-    ∷ 7 when not (eqb size (width (v .plan) u))
-    ∷ 8 when not (eqb (v .marker u) OK)
-    ∷ []))
 
 -- The answer r, with the image that the call left, is the outcome o: number, next device, every byte.
 pub record Gives (r : Answer) (left : List ℕ) (o : model.Outcome) : Type 0 where

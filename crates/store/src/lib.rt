@@ -2,29 +2,30 @@
 // refusal of document 01 that applies, and the next device. A refused call gives the device back as it came and changes no byte.
 // Every contract is an equation with the definitions of crates/model/specs/Calls.antt.
 ghost use mathlib.Core.Path.{_≡_};
-ghost use mathlib.Core.List.{[], _∷_, _++_};
-ghost use mathlib.Core.Bool.{not, _||_};
 ghost use Prim.Native.Nat.{_≤_};
 ghost use lib.ListN.{length};
-ghost use Rattle.model.specs.Refusals.{isCold, isReady, _when_, first, deviceRow, readNumber, wakeNumber};
-ghost use Rattle.model.specs.Calls.{jobOf, viewOf, view, padded, counted, start, format, begin, step, wake, cut, read, inspect};
-ghost use Rattle.layout.specs.Seen.{seen};
-ghost use Rattle.store.specs.Modelled.{modelled, blanked, held, answer, unitNumber, Gives, Starts};
+ghost use Rattle.model.specs.Refusals.{readNumber};
+ghost use Rattle.model.specs.Calls.{view, padded, counted, start, format, begin, step, wake, cut, read, inspect};
+ghost use Rattle.store.specs.Modelled.{modelled, blanked, held, answer, Gives, Starts};
 ghost use Rattle.store.specs.Steps.{steps};
 use layout::base_of;
 use layout::device_number;
 use layout::plan_number;
 use layout::width_of;
-use mirror::any_foreign;
 use mirror::cleanup_from;
 use mirror::format_units;
 use mirror::make_store;
 use mirror::phase_after;
 use mirror::tear_store;
 use model::Inspection;
-use model::Marker;
 use model::Phase;
 use model::Plan;
+use refusal::begin_number;
+use refusal::format_number;
+use refusal::idle;
+use refusal::read_number;
+use refusal::step_number;
+use refusal::wake_number;
 
 // `stores` counts the completed stores, for the memory chip's rating.
 pub struct Device {
@@ -42,107 +43,6 @@ pub struct Answer {
 
 // The count of stores holds here.
 const MOST_STORES: u32 = 4294967295;
-
-// Wrong phase for format and wake.
-fn not_cold(phase: Phase) -> bool
-    ensures { λ r. ⌜ r ≡ not (isCold (jobOf phase)) ⌝ }
-{
-    match phase {
-        Phase::Cold => false,
-        Phase::Ready => true,
-        Phase::Writing { unit: _, made: _ } => true,
-        Phase::Recovering {
-            unit: _,
-            made: _,
-            direction: _,
-        } => true,
-    }
-}
-
-// Wrong phase for begin and read.
-fn not_ready(phase: Phase) -> bool
-    ensures { λ r. ⌜ r ≡ not (isReady (jobOf phase)) ⌝ }
-{
-    match phase {
-        Phase::Cold => true,
-        Phase::Ready => false,
-        Phase::Writing { unit: _, made: _ } => true,
-        Phase::Recovering {
-            unit: _,
-            made: _,
-            direction: _,
-        } => true,
-    }
-}
-
-// Wrong phase for step: there is no store to make.
-fn idle(phase: Phase) -> bool
-    ensures { λ r. ⌜ r ≡ (isCold (jobOf phase) || isReady (jobOf phase)) ⌝ }
-{
-    match phase {
-        Phase::Cold => true,
-        Phase::Ready => true,
-        Phase::Writing { unit: _, made: _ } => false,
-        Phase::Recovering {
-            unit: _,
-            made: _,
-            direction: _,
-        } => false,
-    }
-}
-
-// Refusals 1 to 5.
-fn phase_number(plan: Plan, phase: Phase, length: usize, wrong: bool) -> u16
-    ensures { λ r. ⌜ r ≡ first (deviceRow (seen plan phase length) ++ (5 when wrong ∷ [])) ⌝ }
-{
-    let number = device_number(plan, phase, length);
-    if number != 0 {
-        return number;
-    }
-    if wrong { 5 } else { 0 }
-}
-
-// Refusals 1 to 8 of begin with a payload of `size` bytes. Read has no payload: it asks with the unit's own width.
-fn unit_number(plan: Plan, phase: Phase, image: &[u8], unit: u16, size: usize) -> u16
-    ensures { λ r. ⌜ r ≡ unitNumber (viewOf plan phase (now (image .entry))) unit size ⌝ }
-{
-    let number = phase_number(plan, phase, image.len(), not_ready(phase));
-    if number != 0 {
-        return number;
-    }
-    if plan.count <= unit {
-        return 6;
-    }
-    if size != (width_of(plan, unit) as usize) {
-        return 7;
-    }
-    let base = base_of(plan, unit);
-    if image[base] != Marker::OK {
-        return 8;
-    }
-    0
-}
-
-// Refusals 1 to 8 of read.
-fn read_refusal(plan: Plan, phase: Phase, image: &[u8], unit: u16) -> u16
-    ensures { λ r. ⌜ r ≡ readNumber (viewOf plan phase (now (image .entry))) unit ⌝ }
-{
-    unit_number(plan, phase, image, unit, width_of(plan, unit) as usize)
-}
-
-// Refusals 1 to 5, and 14, of wake.
-fn wake_refusal(plan: Plan, phase: Phase, image: &[u8]) -> u16
-    ensures { λ r. ⌜ r ≡ wakeNumber (viewOf plan phase (now (image .entry))) ⌝ }
-{
-    let number = phase_number(plan, phase, image.len(), not_cold(phase));
-    if number != 0 {
-        return number;
-    }
-    if any_foreign(plan, image) {
-        return 14;
-    }
-    0
-}
 
 // A payload as the device holds it: zeros after it.
 fn zero_filled(payload: &[u8]) -> [u8; 256]
@@ -193,7 +93,7 @@ fn advance(plan: Plan, payload: &[u8], phase: Phase, stores: u32, image: &mut [u
     ensures { λ r. ⌜ Gives (answer (r .number) plan (now (payload .entry)) (r .phase) (r .stores)) (now (image .exit))
         (step (modelled (held plan (now (payload .entry)) phase stores)) (now (image .entry))) ⌝ }
 {
-    let number = phase_number(plan, phase, image.len(), idle(phase));
+    let number = step_number(plan, phase, image.len());
     if number != 0 {
         return Advanced {
             number: number,
@@ -202,10 +102,10 @@ fn advance(plan: Plan, payload: &[u8], phase: Phase, stores: u32, image: &mut [u
         };
     }
     make_store(plan, payload, phase, &mut image[..]);
-    let next = phase_after(plan, phase, &image[..]);
+    let after = phase_after(plan, phase, &image[..]);
     Advanced {
         number: 0,
-        phase: next,
+        phase: after,
         stores: count_one(stores),
     }
 }
@@ -289,7 +189,7 @@ impl Device {
     {
         let plan = self.plan;
         let phase = self.phase;
-        let number = phase_number(plan, phase, image.len(), not_cold(phase));
+        let number = format_number(plan, phase, image.len());
         if number != 0 {
             return Answer {
                 number: number,
@@ -310,7 +210,7 @@ impl Device {
         let plan = self.plan;
         let phase = self.phase;
         let stores = self.stores;
-        let number = unit_number(plan, phase, image, unit, payload.len());
+        let number = begin_number(plan, phase, image, unit, payload.len());
         if number != 0 {
             return Answer {
                 number: number,
@@ -385,7 +285,7 @@ impl Device {
     {
         let plan = self.plan;
         let phase = self.phase;
-        let number = wake_refusal(plan, phase, image);
+        let number = wake_number(plan, phase, image);
         if number != 0 {
             return Answer {
                 number: number,
@@ -434,7 +334,7 @@ impl Device {
     {
         let plan = self.plan;
         let phase = self.phase;
-        read_refusal(plan, phase, image, unit)
+        read_number(plan, phase, image, unit)
     }
 
     // Copy A of a unit, as a part of the image; an empty part when refused.
@@ -443,7 +343,7 @@ impl Device {
     {
         let plan = self.plan;
         let phase = self.phase;
-        let number = read_refusal(plan, phase, image, unit);
+        let number = read_number(plan, phase, image, unit);
         if number != 0 {
             return &image[..0];
         }

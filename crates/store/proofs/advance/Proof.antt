@@ -6,31 +6,31 @@ use denote.Ref.{now}
 use borrow.Author.Needs.{needs}
 use Rattle.store.specs.Modelled.{modelled, held}
 use Rattle.model.specs.Marker.{completed}
+use Rattle.model.specs.Refusals.{stepNumber}
 use Rattle.model.specs.Calls as model
-use Rattle.store.proofs.Laws.{refused, accepted, step-number, live, live-stored}
+use Rattle.refusal.proofs.Laws.{live}
+use Rattle.store.proofs.Laws.{refused, accepted, live-stored}
 use Rattle.store.proofs.advance.Statement.{statement}
 use Rattle.store.proofs.advance.Tie as tie
 
-idle-requires : tie.Need-idle-requires
-idle-requires c κs = search needs
-
-phase-number-requires : tie.Need-phase-number-requires
-phase-number-requires c κs = search needs
+step-number-requires : tie.Need-step-number-requires
+step-number-requires c κs = search needs
 
 returns : tie.Need-returns
-unfolding model.step
-returns c = let a = c .before .before .before .before .before .args in
-    refused (held (a .plan) (now (a .payload)) (a .phase) (a .stores)) (now (a .image)) _ _ _
-    (step-number (a .plan) (a .phase) (now (a .image)) _ _ (c .before .phase-number .ensures) (c .before .before .idle .ensures)) (c .if1 .taken)
+unfolding model.step stepNumber
+returns c = let a = c .before .before .before .before .args in
+    refused (held (a .plan) (now (a .payload)) (a .phase) (a .stores)) (now (a .image)) _ _ _ (c .before .step-number .ensures) (c .if1 .taken)
 
 make-store-requires : tie.Need-make-store-requires
-make-store-requires c κs = let b = c .before .before .before .before .before .before in
-    (live (b .args .plan) (b .args .phase) (now (b .args .image)) _ _ (c .before .before .phase-number .ensures) (c .before .if1 .left), b .pre)
+unfolding stepNumber
+make-store-requires c κs = let b = c .before .before .before .before .before in
+    (live (b .args .plan) (b .args .phase) (now (b .args .image)) _ _ (c .before .before .step-number .ensures) (c .before .if1 .left), b .pre)
 
 phase-after-requires : tie.Need-phase-after-requires
-phase-after-requires c κs = let a = c .before .before .before .before .before .before .before .before .before .before .args in
+unfolding stepNumber
+phase-after-requires c κs = let a = c .before .before .before .before .before .before .before .before .before .args in
     live-stored (a .plan) (a .phase) (now (a .image)) _ completed _ (c .before .before .before .make-store .ensures)
-    (live (a .plan) (a .phase) (now (a .image)) _ _ (c .before .before .before .before .before .before .phase-number .ensures) (c .before .before .before .before .before .if1 .left))
+    (live (a .plan) (a .phase) (now (a .image)) _ _ (c .before .before .before .before .before .before .step-number .ensures) (c .before .before .before .before .before .if1 .left))
 
 count-one-requires : tie.Need-count-one-requires
 count-one-requires c κs = search needs
@@ -39,13 +39,12 @@ same-length : tie.Need-same-length
 same-length c = search needs
 
 returns-2 : tie.Need-returns-2
-unfolding model.step model.imageAfter
-returns-2 c = let a = c .before .before .before .before .before .before .before .before .before .before .before .before .args in
+unfolding model.step model.imageAfter stepNumber
+returns-2 c = let a = c .before .before .before .before .before .before .before .before .before .before .before .args in
     let d = held (a .plan) (now (a .payload)) (a .phase) (a .stores) in
     let made = c .before .before .before .before .before .make-store .ensures in
     let next = c .before .phase-after .ensures ∙ ap (λ (x : List ℕ). model.phaseAfter (d .plan) x (d .phase)) made in
-    accepted _ _ d (now (a .image)) _ _ _
-    (step-number (a .plan) (a .phase) (now (a .image)) _ _ (c .before .before .before .before .before .before .before .before .phase-number .ensures) (c .before .before .before .before .before .before .before .before .before .idle .ensures)) (c .before .before .before .before .before .before .before .if1 .left)
+    accepted _ _ d (now (a .image)) _ _ _ (c .before .before .before .before .before .before .before .before .step-number .ensures) (c .before .before .before .before .before .before .before .if1 .left)
     (record {
       number = refl;
       device = ap₂ (λ phase n. modelled (held (a .plan) (now (a .payload)) phase n)) next (c .count-one .ensures);
@@ -56,8 +55,7 @@ pub advance-spec : {M : Type 1} → statement M
 advance-spec =
     tie.close
     (tie.spec
-    idle-requires
-    phase-number-requires
+    step-number-requires
     returns
     make-store-requires
     phase-after-requires

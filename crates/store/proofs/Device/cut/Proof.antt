@@ -3,8 +3,10 @@ use mathlib.Core.Path.{refl}
 use mathlib.Core.List.{[]}
 use denote.Ref.{now}
 use borrow.Author.Needs.{needs}
+use Rattle.model.specs.Refusals.{cutNumber}
 use Rattle.model.specs.Calls.{cut, imageAfter}
-use Rattle.store.proofs.Laws.{refused, accepted, cut-number, live}
+use Rattle.refusal.proofs.Laws.{live}
+use Rattle.store.proofs.Laws.{refused, accepted}
 use Rattle.store.proofs.Device.cut.Statement.{statement}
 use Rattle.store.proofs.Device.cut.Tie as tie
 
@@ -12,9 +14,9 @@ device-number-requires : tie.Need-device-number-requires
 device-number-requires c κs = search needs
 
 returns : tie.Need-returns
-unfolding cut
+unfolding cut cutNumber
 returns c = let a = c .before .before .before .before .args in
-    refused (a .self) (now (a .image)) _ _ _ (cut-number (a .self .plan) (a .self .phase) (now (a .image)) _ (c .before .device-number .ensures)) (c .if1 .taken)
+    refused (a .self) (now (a .image)) _ _ _ (c .before .device-number .ensures) (c .if1 .taken)
 
 slice-aggregate-tear-store : tie.Need-slice-aggregate-tear-store
 slice-aggregate-tear-store c = search needs
@@ -30,9 +32,9 @@ same-length : tie.Need-same-length
 same-length c = search needs
 
 returns-2 : tie.Need-returns-2
-unfolding cut imageAfter
+unfolding cut imageAfter cutNumber
 returns-2 c = let a = c .before .before .before .before .before .before .before .before .before .before .before .args in
-    accepted _ _ (a .self) (now (a .image)) _ _ _ (cut-number (a .self .plan) (a .self .phase) (now (a .image)) _ (c .before .before .before .before .before .before .before .before .device-number .ensures)) (c .before .before .before .before .before .before .before .if1 .left)
+    accepted _ _ (a .self) (now (a .image)) _ _ _ (c .before .before .before .before .before .before .before .before .device-number .ensures) (c .before .before .before .before .before .before .before .if1 .left)
     (record { number = refl; device = c .blank .ensures; image = c .before .before .before .tear-store .ensures })
 
 pub cut-spec : {M : Type 1} → statement M

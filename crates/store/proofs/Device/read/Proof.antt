@@ -8,15 +8,15 @@ use Rattle.store.proofs.Laws.{read-inside, copy-part, part-refused, par
 use Rattle.store.proofs.Device.read.Statement.{statement}
 use Rattle.store.proofs.Device.read.Tie as tie
 
-read-refusal-requires : tie.Need-read-refusal-requires
-read-refusal-requires c κs = search needs
+read-number-requires : tie.Need-read-number-requires
+read-number-requires c κs = search needs
 
 slice-aggregate-result : tie.Need-slice-aggregate-result
 slice-aggregate-result c = search needs
 
 returns : tie.Need-returns
 unfolding read
-returns c = part-refused _ _ _ (c .before .before .read-refusal .ensures) (c .before .if1 .taken)
+returns c = part-refused _ _ _ (c .before .before .read-number .ensures) (c .before .if1 .taken)
 
 base-of-requires : tie.Need-base-of-requires
 base-of-requires c κs = search needs
@@ -41,20 +41,20 @@ part-result-start c = search needs
 
 part-result-end : tie.Need-part-result-end
 part-result-end c = let a = c .before .before .before .before .before .before .args in
-    let h = read-inside (a .self .plan) (a .self .phase) (now (a .image)) _ (a .unit) (c .before .before .before .read-refusal .ensures) (c .before .before .if1 .left) in
+    let h = read-inside (a .self .plan) (a .self .phase) (now (a .image)) _ (a .unit) (c .before .before .before .read-number .ensures) (c .before .before .if1 .left) in
     omega (arith, h, c .before .base-of .ensures .0, c .width-of .ensures)
 
 returns-2 : tie.Need-returns-2
 unfolding read
 returns-2 c = let a = c .before .before .before .before .before .before .before .args in
     copy-part (a .self .plan) (a .self .phase) (now (a .image)) (a .unit) _ _ (c .before .before .base-of .ensures .0) (c .before .width-of .ensures)
-    ∙ part-shown _ _ _ (c .before .before .before .before .read-refusal .ensures) (c .before .before .before .if1 .left)
+    ∙ part-shown _ _ _ (c .before .before .before .before .read-number .ensures) (c .before .before .before .if1 .left)
 
 pub read-spec : {M : Type 1} → statement M
 read-spec =
     tie.close
     (tie.spec
-    read-refusal-requires
+    read-number-requires
     slice-aggregate-result
     returns
     base-of-requires

@@ -1,10 +1,10 @@
--- `store::phase_number` meets its contract: refusals 1 to 4 first, then 5.
+-- `refusal::phase_number` meets its contract: refusals 1 to 4 first, then 5.
 use mathlib.Core.Path.{refl, sym, _∙_}
 use mathlib.Core.List.{[]}
 use borrow.Author.Needs.{needs}
 use Rattle.model.proofs.RefusalLaws.{first-refused, first-passed, first-stop, first-skip, first-none}
-use Rattle.store.proofs.phase_number.Statement.{statement}
-use Rattle.store.proofs.phase_number.Tie as tie
+use Rattle.refusal.proofs.phase_number.Statement.{statement}
+use Rattle.refusal.proofs.phase_number.Tie as tie
 
 device-number-requires : tie.Need-device-number-requires
 device-number-requires c κs = search needs

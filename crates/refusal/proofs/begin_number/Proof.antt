@@ -1,15 +1,17 @@
--- `store::unit_number` meets its contract: the row of begin, number by number.
+-- `refusal::begin_number` meets its contract: the row of begin, number by number.
 use native.Mathlib.Omega.{arith}
 use mathlib.Core.Path.{sym, ap, _∙_}
 use mathlib.Core.List.{[]}
 use mathlib.Core.Bool.{not}
+use lib.ListN.{length}
 use denote.Ref.{now}
 use borrow.Author.Tests.{le-leb, lt-leb, eq-eqb, ne-eqb}
 use borrow.Author.Needs.{needs}
+use Rattle.model.specs.Layout.{width}
 use Rattle.model.proofs.RefusalLaws.{first-stop, first-skip, first-none}
-use Rattle.store.proofs.Laws.{phase-refused, phase-passed, marker-bad, marker-good, live, unit-inside}
-use Rattle.store.proofs.unit_number.Statement.{statement}
-use Rattle.store.proofs.unit_number.Tie as tie
+use Rattle.refusal.proofs.Laws.{phase-refused, phase-passed, marker-bad, marker-good, live, unit-inside}
+use Rattle.refusal.proofs.begin_number.Statement.{statement}
+use Rattle.refusal.proofs.begin_number.Tie as tie
 
 not-ready-requires : tie.Need-not-ready-requires
 not-ready-requires c κs = search needs
@@ -19,11 +21,11 @@ phase-number-requires c κs = search needs
 
 returns : tie.Need-returns
 returns c = let a = c .before .before .before .before .args in
-    phase-refused (a .plan) (a .phase) (now (a .image)) _ _ (c .before .phase-number .ensures) (c .before .before .not-ready .ensures) (c .if1 .taken) _
+    phase-refused (a .plan) (a .phase) (length (now (a .image))) _ _ (c .before .phase-number .ensures) (c .before .before .not-ready .ensures) (c .if1 .taken) _
 
 returns-2 : tie.Need-returns-2
 returns-2 c = let a = c .before .before .before .before .before .before .args in
-    sym (phase-passed (a .plan) (a .phase) (now (a .image)) _ _ (c .before .before .before .phase-number .ensures) (c .before .before .before .before .not-ready .ensures) (c .before .before .if1 .left) _
+    sym (phase-passed (a .plan) (a .phase) (length (now (a .image))) _ _ (c .before .before .before .phase-number .ensures) (c .before .before .before .before .not-ready .ensures) (c .before .before .if1 .left) _
     ∙ first-stop 6 _ _ (le-leb _ _ (c .if2 .taken)))
 
 width-of-requires : tie.Need-width-of-requires
@@ -34,9 +36,9 @@ cast-if3 c = search needs
 
 returns-3 : tie.Need-returns-3
 returns-3 c = let a = c .before .before .before .before .before .before .before .before .args in
-    sym (phase-passed (a .plan) (a .phase) (now (a .image)) _ _ (c .before .before .before .before .before .phase-number .ensures) (c .before .before .before .before .before .before .not-ready .ensures) (c .before .before .before .before .if1 .left) _
+    sym (phase-passed (a .plan) (a .phase) (length (now (a .image))) _ _ (c .before .before .before .before .before .phase-number .ensures) (c .before .before .before .before .before .before .not-ready .ensures) (c .before .before .before .before .if1 .left) _
     ∙ first-skip 6 _ _ (lt-leb _ _ (c .before .before .if2 .left))
-    ∙ first-stop 7 _ _ (ap not (ne-eqb _ _ (rw (c .before .width-of .ensures) at (c .if3 .taken)))))
+    ∙ first-stop 7 _ _ (ap not (ne-eqb (a .size) (width (a .plan) (a .unit)) (λ q. absurd (omega (arith, c .if3 .taken, c .before .width-of .ensures, q))))))
 
 base-of-requires : tie.Need-base-of-requires
 base-of-requires c κs = search needs
@@ -48,20 +50,20 @@ shared-slice-read-if4 c = let a = c .before .before .before .before .before .bef
 
 returns-4 : tie.Need-returns-4
 returns-4 c = let a = c .before .before .before .before .before .before .before .before .before .before .before .args in
-    sym (phase-passed (a .plan) (a .phase) (now (a .image)) _ _ (c .before .before .before .before .before .before .before .before .phase-number .ensures) (c .before .before .before .before .before .before .before .before .before .not-ready .ensures) (c .before .before .before .before .before .before .before .if1 .left) _
+    sym (phase-passed (a .plan) (a .phase) (length (now (a .image))) _ _ (c .before .before .before .before .before .before .before .before .phase-number .ensures) (c .before .before .before .before .before .before .before .before .before .not-ready .ensures) (c .before .before .before .before .before .before .before .if1 .left) _
     ∙ first-skip 6 _ _ (lt-leb _ _ (c .before .before .before .before .before .if2 .left))
-    ∙ first-skip 7 _ _ (ap not (eq-eqb _ _ (rw (c .before .before .before .before .width-of .ensures) at (c .before .before .before .if3 .left))))
+    ∙ first-skip 7 _ _ (ap not (eq-eqb (a .size) (width (a .plan) (a .unit)) (omega (arith, c .before .before .before .if3 .left, c .before .before .before .before .width-of .ensures))))
     ∙ first-stop 8 _ [] (marker-bad (a .plan) (a .phase) (now (a .image)) (a .unit) _ (c .before .before .base-of .ensures .0) (c .if4 .taken)))
 
 returns-5 : tie.Need-returns-5
 returns-5 c = let a = c .before .before .before .before .before .before .before .before .before .before .before .args in
-    sym (phase-passed (a .plan) (a .phase) (now (a .image)) _ _ (c .before .before .before .before .before .before .before .before .phase-number .ensures) (c .before .before .before .before .before .before .before .before .before .not-ready .ensures) (c .before .before .before .before .before .before .before .if1 .left) _
+    sym (phase-passed (a .plan) (a .phase) (length (now (a .image))) _ _ (c .before .before .before .before .before .before .before .before .phase-number .ensures) (c .before .before .before .before .before .before .before .before .before .not-ready .ensures) (c .before .before .before .before .before .before .before .if1 .left) _
     ∙ first-skip 6 _ _ (lt-leb _ _ (c .before .before .before .before .before .if2 .left))
-    ∙ first-skip 7 _ _ (ap not (eq-eqb _ _ (rw (c .before .before .before .before .width-of .ensures) at (c .before .before .before .if3 .left))))
+    ∙ first-skip 7 _ _ (ap not (eq-eqb (a .size) (width (a .plan) (a .unit)) (omega (arith, c .before .before .before .if3 .left, c .before .before .before .before .width-of .ensures))))
     ∙ first-skip 8 _ [] (marker-good (a .plan) (a .phase) (now (a .image)) (a .unit) _ (c .before .before .base-of .ensures .0) (c .if4 .left)) ∙ first-none)
 
-pub unit-number-spec : {M : Type 1} → statement M
-unit-number-spec =
+pub begin-number-spec : {M : Type 1} → statement M
+begin-number-spec =
     tie.close
     (tie.spec
     not-ready-requires

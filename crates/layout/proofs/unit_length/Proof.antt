@@ -1,0 +1,17 @@
+-- `layout::unit_length` meets its contract: a marker and two copies.
+use native.Mathlib.Omega.{arith}
+use borrow.Author.Needs.{needs}
+use Rattle.layout.proofs.unit_length.Statement.{statement}
+use Rattle.layout.proofs.unit_length.Tie as tie
+
+mul-result : tie.Need-mul-result
+mul-result c = search needs
+
+add-result : tie.Need-add-result
+add-result c = search needs
+
+returns : tie.Need-returns
+returns c = (omega arith, omega arith)
+
+pub unit-length-spec : {M : Type 1} → statement M
+unit-length-spec = tie.close (tie.spec mul-result add-result returns)

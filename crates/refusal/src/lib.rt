@@ -1,0 +1,131 @@
+// The refusals: what a call answers by number, 0 or the lowest of document 01 that applies. Cut and inspect, which have 1 to 4
+// alone, ask `layout`.
+ghost use mathlib.Core.Path.{_≡_};
+ghost use mathlib.Core.List.{[], _∷_, _++_};
+ghost use mathlib.Core.Bool.{not, _||_};
+ghost use Rattle.model.specs.Refusals.{isCold, isReady, _when_, first, deviceRow, formatNumber, wakeNumber, stepNumber, readNumber};
+ghost use Rattle.model.specs.Calls.{jobOf, viewOf};
+ghost use Rattle.layout.specs.Seen.{seen};
+ghost use Rattle.refusal.specs.Row.{unitNumber};
+use layout::base_of;
+use layout::device_number;
+use layout::width_of;
+use mirror::any_foreign;
+use model::Marker;
+use model::Phase;
+use model::Plan;
+
+// Wrong phase for format and wake.
+fn not_cold(phase: Phase) -> bool
+    ensures { λ r. ⌜ r ≡ not (isCold (jobOf phase)) ⌝ }
+{
+    match phase {
+        Phase::Cold => false,
+        Phase::Ready => true,
+        Phase::Writing { unit: _, made: _ } => true,
+        Phase::Recovering {
+            unit: _,
+            made: _,
+            direction: _,
+        } => true,
+    }
+}
+
+// Wrong phase for begin and read.
+fn not_ready(phase: Phase) -> bool
+    ensures { λ r. ⌜ r ≡ not (isReady (jobOf phase)) ⌝ }
+{
+    match phase {
+        Phase::Cold => true,
+        Phase::Ready => false,
+        Phase::Writing { unit: _, made: _ } => true,
+        Phase::Recovering {
+            unit: _,
+            made: _,
+            direction: _,
+        } => true,
+    }
+}
+
+// Wrong phase for step: there is no store to make.
+pub fn idle(phase: Phase) -> bool
+    ensures { λ r. ⌜ r ≡ (isCold (jobOf phase) || isReady (jobOf phase)) ⌝ }
+{
+    match phase {
+        Phase::Cold => true,
+        Phase::Ready => true,
+        Phase::Writing { unit: _, made: _ } => false,
+        Phase::Recovering {
+            unit: _,
+            made: _,
+            direction: _,
+        } => false,
+    }
+}
+
+// Refusals 1 to 5.
+fn phase_number(plan: Plan, phase: Phase, length: usize, wrong: bool) -> u16
+    ensures { λ r. ⌜ r ≡ first (deviceRow (seen plan phase length) ++ (5 when wrong ∷ [])) ⌝ }
+{
+    let number = device_number(plan, phase, length);
+    if number != 0 {
+        return number;
+    }
+    if wrong { 5 } else { 0 }
+}
+
+// Refusals 1 to 5 of format, for an image of `length` bytes.
+pub fn format_number(plan: Plan, phase: Phase, length: usize) -> u16
+    ensures { λ r. ⌜ r ≡ formatNumber (seen plan phase length) ⌝ }
+{
+    phase_number(plan, phase, length, not_cold(phase))
+}
+
+// Refusals 1 to 5 of step, for an image of `length` bytes.
+pub fn step_number(plan: Plan, phase: Phase, length: usize) -> u16
+    ensures { λ r. ⌜ r ≡ stepNumber (seen plan phase length) ⌝ }
+{
+    phase_number(plan, phase, length, idle(phase))
+}
+
+// Refusals 1 to 8 of begin with a payload of `size` bytes. Read has no payload: it asks with the unit's own width.
+pub fn begin_number(plan: Plan, phase: Phase, image: &[u8], unit: u16, size: usize) -> u16
+    ensures { λ r. ⌜ r ≡ unitNumber (viewOf plan phase (now (image .entry))) unit size ⌝ }
+{
+    let number = phase_number(plan, phase, image.len(), not_ready(phase));
+    if number != 0 {
+        return number;
+    }
+    if plan.count <= unit {
+        return 6;
+    }
+    if size != (width_of(plan, unit) as usize) {
+        return 7;
+    }
+    let base = base_of(plan, unit);
+    if image[base] != Marker::OK {
+        return 8;
+    }
+    0
+}
+
+// Refusals 1 to 8 of read.
+pub fn read_number(plan: Plan, phase: Phase, image: &[u8], unit: u16) -> u16
+    ensures { λ r. ⌜ r ≡ readNumber (viewOf plan phase (now (image .entry))) unit ⌝ }
+{
+    begin_number(plan, phase, image, unit, width_of(plan, unit) as usize)
+}
+
+// Refusals 1 to 5 of wake, which are format's, and 14.
+pub fn wake_number(plan: Plan, phase: Phase, image: &[u8]) -> u16
+    ensures { λ r. ⌜ r ≡ wakeNumber (viewOf plan phase (now (image .entry))) ⌝ }
+{
+    let number = format_number(plan, phase, image.len());
+    if number != 0 {
+        return number;
+    }
+    if any_foreign(plan, image) {
+        return 14;
+    }
+    0
+}
