@@ -1,19 +1,19 @@
 -- Every accepted text gives a table that passes the check.
-use Prim.Native.Nat.{ℕ, zero, suc, _+_, _*_, _-_, _≤_}
-use mathlib.Core.Path.{_≡_, refl, ap, sym, _∙_}
-use mathlib.Core.Bool.{Bool, true, false, cond, _&&_}
-use mathlib.Core.List.{List, [], _∷_, _++_, append-assoc, append-nil}
+use Prim.Native.Nat.{ℕ, zero, suc, _+_, _*_, _-_}
+use mathlib.Core.Path.{_≡_, refl, sym, _∙_}
+use mathlib.Core.Bool.{Bool, true, false, cond}
+use mathlib.Core.List.{List, [], _++_, append-assoc, append-nil}
 use native.Mathlib.Omega.{arith}
 use lib.Dec.{eqb, ltb}
-use lib.ListN.{length, take, drop, length-append}
+use lib.ListN.{length, length-append}
 use lib.Seq.{drop-at, take-at}
 use borrow.Author.Tests.{eq-eqb, ne-eqb}
-use Rattle.model.proofs.Compare.{Same, equal, differ, same}
-use Rattle.script.specs.declared.Kind.the-variants.{Entry}
-use Rattle.script.specs.Line.{lost}
-use Rattle.script.specs.Items.{values-length}
+use Rattle.model.proofs.Compare.{equal, differ, same}
+use Rattle.token.specs.declared.Kind.the-variants.{Entry}
+use Rattle.token.specs.Token.{lost}
+use Rattle.token.specs.Items.{values-length}
 use Rattle.reader.specs.Read.{lineEnd, lineAt}
-use Rattle.curve.specs.Curve.{rowAt, rowOf, inRule, lowerOf, lineNumber, Curve, curve, linesFrom, curveOf, levelsGood, passes, badRoom, loadNumber, loaded}
+use Rattle.curve.specs.Curve.{rowAt, rowOf, inRule, lowerOf, lineNumber, curve, linesFrom, curveOf, levelsGood, passes, badRoom, loadNumber, loaded}
 
 -- what is read of the n lines that are left, after the entries done
 record Left (n : ℕ) (done entries : List ℕ) : Type 0 where

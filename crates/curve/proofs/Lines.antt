@@ -1,16 +1,16 @@
 -- A line after another: its number by the code's tests, and the lines that are left.
-use Prim.Native.Nat.{ℕ, zero, suc, _+_, _-_, _≤_, _<_}
-use mathlib.Core.Path.{_≡_, refl, ap, sym, _∙_}
+use Prim.Native.Nat.{ℕ, suc, _+_, _-_, _≤_, _<_}
+use mathlib.Core.Path.{_≡_, ap, sym, _∙_}
 use mathlib.Core.Bool.{Bool, true, false, cond}
-use mathlib.Core.List.{List, [], _∷_, _++_}
+use mathlib.Core.List.{List, [], _++_}
 use native.Mathlib.Omega.{arith}
 use lib.ListN.{length, take, drop}
 use borrow.Author.Tests.{eq-eqb, ne-eqb, lt-ltb, le-ltb}
-use Rattle.script.specs.declared.Kind.the-variants.{Entry}
-use Rattle.script.specs.Line.{lost}
-use Rattle.script.specs.Items.{valuesAt}
+use Rattle.token.specs.declared.Kind.the-variants.{Entry}
+use Rattle.token.specs.Token.{lost}
+use Rattle.token.specs.Items.{valuesAt}
 use Rattle.reader.specs.Read.{lineEnd, lineAt}
-use Rattle.curve.specs.Curve.{rowAt, rowOf, inRule, lowerOf, lineNumber, Curve, curve, linesFrom}
+use Rattle.curve.specs.Curve.{rowAt, rowOf, inRule, lowerOf, lineNumber, curve, linesFrom}
 
 module _ (i : ℕ) (text : List ℕ) (at : ℕ) (done : List ℕ) where
   pub line-missing : length text ≤ at → 12 ≡ lineNumber i text at done

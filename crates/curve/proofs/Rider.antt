@@ -1,18 +1,17 @@
 -- What an accepted curve promises a rider, said of the drive; and that the constant table is such a curve.
 use Prim.Native.Nat.{ℕ, zero, suc, _+_, _*_, _-_, _/_, _≤_, _<_}
-use mathlib.Core.Path.{_≡_, refl, ap, sym, _∙_}
+use mathlib.Core.Path.{_≡_, refl}
 use mathlib.Core.Bool.{true}
 use mathlib.Core.List.{List}
 use native.Mathlib.Omega.{arith}
-use lib.ListN.{length, getD}
+use lib.ListN.{getD}
 use Rattle.model.specs.Drive.{driveNumber}
 use Rattle.brake.specs.Over.{driveOver}
 use Rattle.brake.proofs.Accepted.{in-range}
 use Rattle.brake.proofs.Drives.{drives}
 use Rattle.brake.proofs.Over.{over-entry}
-use Rattle.curve.specs.Curve.{inRule, levelsGood, passes, curveOf}
+use Rattle.curve.specs.Curve.{inRule, levelsGood, passes}
 use Rattle.curve.proofs.Promise.{table-long, entry-small, never-falls, level-above}
-use Rattle.curve.proofs.Accepts.{accepted-passes}
 
 -- "The constant table passes the check."
 pub constant-passes : passes drives ≡ true

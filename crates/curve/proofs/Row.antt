@@ -1,17 +1,17 @@
 -- A line's form, by the code's own tests on what it read.
 use Prim.Native.Nat.{ℕ, _≤_, _<_}
 use Prim.Native.Char.{code}
-use mathlib.Core.Path.{_≡_, refl, sym, _∙_}
-use mathlib.Core.Bool.{Bool, true, false, cond, _&&_}
+use mathlib.Core.Path.{_≡_, sym, _∙_}
+use mathlib.Core.Bool.{cond, _&&_}
 use mathlib.Core.List.{List}
-use lib.Dec.{eqb, ltb}
+use lib.Dec.{eqb}
 use lib.ListN.{length}
 use borrow.Author.Tests.{eq-eqb, ne-eqb, lt-ltb, le-ltb}
-use Rattle.script.specs.Ascii.{ascii}
-use Rattle.script.specs.declared.Kind.the-variants.{Entry}
-use Rattle.script.specs.declared.Item.{Item}
-use Rattle.script.specs.declared.Items.{Items}
-use Rattle.script.specs.Line.{lost, eatAt, wordAt, entryAt, itemsAt}
+use Rattle.token.specs.Ascii.{ascii}
+use Rattle.token.specs.declared.Kind.the-variants.{Entry}
+use Rattle.token.specs.declared.Item.{Item}
+use Rattle.token.specs.declared.Items.{Items}
+use Rattle.token.specs.Token.{lost, eatAt, wordAt, entryAt, itemsAt}
 use Rattle.curve.specs.Curve.{rowAt}
 
 pub row-long : (l : ℕ) (line : List ℕ) → lost ≤ length line → lost ≡ rowAt l line

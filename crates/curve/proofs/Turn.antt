@@ -1,5 +1,5 @@
 -- One entry after another: the scratch, the rules and the entries that are left, a turn of the loop at a time.
-use Prim.Native.Nat.{ℕ, zero, suc, _+_, _-_, _*_, _≤_, _<_}
+use Prim.Native.Nat.{ℕ, suc, _+_, _-_, _*_, _≤_, _<_}
 use mathlib.Core.Path.{_≡_, refl, ap, sym, _∙_}
 use mathlib.Core.Bool.{Bool, true, false, _&&_, _||_}
 use mathlib.Core.List.{List, [], _∷_, _++_}
@@ -9,11 +9,11 @@ use lib.Dec.{ltb, leb}
 use lib.ListN.{length, take, drop, getD, set}
 use lib.Seq.{take-suc-set, append-snoc, drop-cons, drop-drop, drop-nil, getD-take}
 use borrow.Author.Tests.{lt-ltb, le-ltb, leb-true}
-use Rattle.model.proofs.Compare.{Order, below, above, order}
-use Rattle.script.specs.declared.Kind.the-variants.{Entry}
-use Rattle.script.specs.declared.Item.{Item}
-use Rattle.script.specs.Line.{eatAt, entryAt, itemAt}
-use Rattle.script.specs.Items.{valuesAt}
+use Rattle.model.proofs.Compare.{below, above, order}
+use Rattle.token.specs.declared.Kind.the-variants.{Entry}
+use Rattle.token.specs.declared.Item.{Item}
+use Rattle.token.specs.Token.{eatAt, entryAt, itemAt}
+use Rattle.token.specs.Items.{valuesAt}
 use Rattle.curve.specs.Curve.{higher, inRule, lowerOf}
 
 -- the code's test of one entry at place `at`, after `before` on its line

@@ -3,11 +3,11 @@ use Prim.Native.Nat.{ℕ, zero, suc}
 use Prim.Native.String.{String}
 use mathlib.Core.Path.{_≡_, refl}
 use mathlib.Core.List.{List, [], _∷_, _++_, map}
-use lib.ListN.{length, replicate, getD, take, drop}
+use lib.ListN.{replicate}
 use Rattle.bytes.specs.Bytes.{indexOf, indexAfter, slice}
-use Rattle.script.specs.Ascii.{ascii}
-use Rattle.script.specs.Line.{eatAt, wordAt, digitOf, digitAt, extendAt, moreAt, entryAt, itemAt, itemsAt}
-use Rattle.script.specs.Items.{valuesAt}
+use Rattle.token.specs.Ascii.{ascii}
+use Rattle.token.specs.Token.{eatAt, wordAt, digitOf, digitAt, extendAt, moreAt, entryAt, itemAt, itemsAt}
+use Rattle.token.specs.Items.{valuesAt}
 use Rattle.reader.specs.Read.{lineEnd, lineAt}
 use Rattle.curve.specs.Curve.{rowAt, inRule, lineNumber}
 

@@ -6,12 +6,12 @@ use mathlib.Core.Bool.{Bool, true, cond, not, _&&_, _||_}
 use mathlib.Core.List.{List, [], _∷_, _++_}
 use lib.Dec.{eqb, ltb, leb}
 use lib.ListN.{length, take, drop}
-use Rattle.script.specs.Ascii.{ascii}
-use Rattle.script.specs.declared.Kind.the-variants.{Entry}
-use Rattle.script.specs.declared.Item.{Item}
-use Rattle.script.specs.declared.Items.{Items}
-use Rattle.script.specs.Line.{lost, eatAt, wordAt, entryAt, itemsAt}
-use Rattle.script.specs.Items.{valuesAt}
+use Rattle.token.specs.Ascii.{ascii}
+use Rattle.token.specs.declared.Kind.the-variants.{Entry}
+use Rattle.token.specs.declared.Item.{Item}
+use Rattle.token.specs.declared.Items.{Items}
+use Rattle.token.specs.Token.{lost, eatAt, wordAt, entryAt, itemsAt}
+use Rattle.token.specs.Items.{valuesAt}
 use Rattle.reader.specs.Read.{lineEnd, lineAt}
 
 -- "each `(level L (..))`, L its line number, with 64 entries of 1 to 5 decimal digits without leading zeros, single spaces":

@@ -1,38 +1,38 @@
 // Brake curves from the bike maker: a text of 20 levels by 64 entries is read into a lent scratch, and from there into the lent
 // table once all of it is known to be good. The contracts are equations with specs/Curve.antt.
-use script::Kind;
+use token::Kind;
 ghost use mathlib.Core.Path.{_≡_};
 ghost use mathlib.Core.Bool.{true, _||_, _&&_};
-ghost use mathlib.Core.List.{[], _++_};
+ghost use mathlib.Core.List.{_++_};
 ghost use Prim.Native.Nat.{_+_, _-_, _*_, _<_, _≤_};
 ghost use lib.Dec.{ltb, leb};
 ghost use lib.ListN.{length, take, getD};
-ghost use Rattle.script.specs.declared.Kind.the-variants.{Entry};
-ghost use Rattle.script.specs.Items.{valuesAt};
+ghost use Rattle.token.specs.declared.Kind.the-variants.{Entry};
+ghost use Rattle.token.specs.Items.{valuesAt};
 ghost use Rattle.reader.specs.Read.{lineEnd, lineAt};
-ghost use Rattle.curve.specs.Curve.{rowAt, rowOf, inRule, lowerOf, lineNumber, linesFrom, curveOf, loadNumber, loaded};
+ghost use Rattle.curve.specs.Curve.{rowAt, rowOf, inRule, lowerOf, lineNumber, curveOf, loadNumber, loaded};
 
 // The place of the first of a line's 64 entries, or LOST if the line isn't of the form.
 fn row_at(line: &[u8], level: usize) -> usize
     ensures { λ r. ⌜ r ≡ rowAt level (now (line .entry)) ⌝ }
 {
-    if script::LOST <= line.len() {
-        return script::LOST;
+    if token::LOST <= line.len() {
+        return token::LOST;
     }
-    let number = script::entry(line, script::word(line, 0, b"(level "));
+    let number = token::entry(line, token::word(line, 0, b"(level "));
     let value = number.value;
-    let at = script::word(line, number.next, b" (");
-    let row = script::items_at(Kind::Entry, line, at, 64);
+    let at = token::word(line, number.next, b" (");
+    let row = token::items_at(Kind::Entry, line, at, 64);
     let count = row.count;
-    let end = script::eat(line, row.next, b')');
+    let end = token::eat(line, row.next, b')');
     if value != level {
-        return script::LOST;
+        return token::LOST;
     }
     if count != 64 {
-        return script::LOST;
+        return token::LOST;
     }
     if end != line.len() {
-        return script::LOST;
+        return token::LOST;
     }
     at
 }
@@ -68,7 +68,7 @@ fn row_into(line: &[u8], from: usize, scratch: &mut [u16], i: usize) -> bool
     let mut p = from;
     let mut before: usize = 0;
     while at < end {
-        let item = script::entry(line, p);
+        let item = token::entry(line, p);
         let value = item.value;
         let good = in_rule(&scratch[..], at, before, value);
         if !good {
@@ -76,7 +76,7 @@ fn row_into(line: &[u8], from: usize, scratch: &mut [u16], i: usize) -> bool
         }
         scratch[at] = value as u16;
         before = value;
-        p = script::eat(line, item.next, b' ');
+        p = token::eat(line, item.next, b' ');
         at = at + 1;
     }
     true
@@ -101,7 +101,7 @@ fn line_into(text: &[u8], at: usize, scratch: &mut [u16], i: usize) -> Past
     }
     let end = bytes::scan::find(text, at, text.len(), b'\n');
     let from = row_at(&text[at..end], i + 1);
-    if from == script::LOST {
+    if from == token::LOST {
         return Past {
             number: 12,
             at: end,

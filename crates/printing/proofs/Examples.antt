@@ -4,7 +4,7 @@ use mathlib.Core.Path.{_≡_, refl}
 use mathlib.Core.List.{List, [], _∷_, _++_, map}
 use Rattle.model.specs.declared.Plan.{Plan}
 use Rattle.model.specs.Layout.{base, get, copyOf}
-use Rattle.script.specs.Ascii.{ascii}
+use Rattle.token.specs.Ascii.{ascii}
 use Rattle.printing.specs.Text.{digit, hex, bytesText, digitAt, decimal, numbered, answerLine, listed, unitText, unitLine}
 
 -- `(plan (2 1))`

@@ -6,7 +6,7 @@ use mathlib.Core.List.{List, [], _∷_, _++_}
 use lib.Dec.{ltb}
 use Rattle.model.specs.declared.Plan.{Plan}
 use Rattle.model.specs.Layout.{copyA, copyB, marker, get, copyOf}
-use Rattle.script.specs.Ascii.{ascii}
+use Rattle.token.specs.Ascii.{ascii}
 
 -- the character of a digit below 16, "lower-case"
 unfoldable pub digit : ℕ → ℕ

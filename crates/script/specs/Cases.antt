@@ -3,12 +3,14 @@ use Prim.Native.Nat.{ℕ, zero, suc}
 use mathlib.Core.Path.{_≡_, refl}
 use mathlib.Core.List.{List, [], _∷_, _++_, map}
 use Rattle.script.specs.declared.Form.the-variants.{Plan, Write, Step, Cut, Wake, Show}
-use Rattle.script.specs.declared.Kind.the-variants.{Byte}
+use Rattle.token.specs.declared.Kind.the-variants.{Byte}
 use Rattle.script.specs.declared.Line.{Line}
 use Rattle.script.specs.declared.Line.the-variants.{Is, Bad}
-use Rattle.script.specs.Ascii.{ascii}
-use Rattle.script.specs.Line.{eatAt, wordAt, digitOf, digitAt, extendAt, hexAt, moreAt, atMost, entryAt, numberAt, itemAt, itemsAt, listAt, closedAt, planOf, writeOf, stepOf, cutOf, bareOf, _or_, formOf}
-use Rattle.script.specs.Items.{valuesAt, widthsAt}
+use Rattle.token.specs.Ascii.{ascii}
+use Rattle.token.specs.Token.{eatAt, wordAt, digitOf, digitAt, extendAt, hexAt, moreAt, atMost, entryAt, numberAt, itemAt, itemsAt, listAt}
+use Rattle.script.specs.Line.{closedAt, planOf, writeOf, stepOf, cutOf, bareOf, _or_, formOf}
+use Rattle.token.specs.Items.{valuesAt}
+use Rattle.script.specs.Widths.{widthsAt}
 
 -- so many bytes f7, each with a space after it
 abbrev many : ℕ → List ℕ

@@ -1,5 +1,4 @@
-pub mod Ascii
 pub mod Line
-pub mod Items
+pub mod Widths
 pub mod Counts
 pub mod Cases

@@ -5,7 +5,7 @@ use denote.Ref.{now}
 use mathlib.Core.Path.{refl, ap, _∙_}
 use mathlib.Core.List.{_++_}
 use Prim.Native.Nat.{_+_, _-_, _*_}
-use lib.ListN.{take, drop}
+use lib.ListN.{take}
 use Rattle.reader.specs.Read.{lineEnd}
 use Rattle.curve.proofs.Lines.{line-missing, line-formless, line-good, line-bad, is-row}
 use Rattle.curve.proofs.line_into.Statement.{statement}

@@ -3,7 +3,7 @@ use borrow.Author.Needs.{needs}
 use native.Mathlib.Omega.{arith}
 use denote.Ref.{now}
 use mathlib.Core.Path.{ap, _∙_}
-use Rattle.script.specs.Line.{entryAt}
+use Rattle.token.specs.Token.{entryAt}
 use Rattle.curve.proofs.Row.{row-long, other-level, other-count, other-end, of-form}
 use Rattle.curve.proofs.row_at.Statement.{statement}
 use Rattle.curve.proofs.row_at.Tie as tie

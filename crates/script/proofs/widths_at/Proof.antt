@@ -6,10 +6,12 @@ use lib.Seq.{sets}
 use native.Mathlib.Nat.{sub-zero}
 use native.Mathlib.Omega.{arith}
 use borrow.Author.Needs.{needs}
-use Rattle.script.specs.declared.Kind.the-variants.{Number}
-use Rattle.script.specs.Line.{itemAt}
-use Rattle.script.specs.Items.{valuesAt, widthsAt}
-use Rattle.script.proofs.Laws.{values-step, values-end, values-out, widths-all}
+use Rattle.token.specs.declared.Kind.the-variants.{Number}
+use Rattle.token.specs.Token.{itemAt}
+use Rattle.token.specs.Items.{valuesAt}
+use Rattle.script.specs.Widths.{widthsAt}
+use Rattle.token.proofs.Laws.{values-step, values-end, values-out}
+use Rattle.script.proofs.Laws.{widths-all}
 use Rattle.script.proofs.widths_at.Statement.{statement}
 use Rattle.script.proofs.widths_at.Tie as tie
 

@@ -1,0 +1,103 @@
+-- What stands at a place of a line: a byte, a word, a number, a list. A definition reads the line from a place on, and gives the
+-- place past what it read, or `lost`, where nothing is read any more. The words of document 01, 'Bench program', stand in quotes.
+use Prim.Native.Nat.{ℕ, zero, suc, _+_, _-_, _*_, _≤_}
+use mathlib.Core.Bool.{cond, _&&_, _||_}
+use mathlib.Core.Path.{_≡_}
+use mathlib.Core.List.{List, [], _∷_}
+use lib.ListN.{length, getD}
+use lib.Dec.{eqb, ltb, leb}
+use native.Mathlib.Omega.{arith}
+use borrow.Author.Tests.{le-ltb}
+use Prim.Native.Char.{code}
+use Rattle.token.specs.declared.Kind.{Kind}
+use Rattle.token.specs.declared.Kind.the-variants.{Byte, Number, Entry}
+use Rattle.token.specs.declared.Item.{Item}
+use Rattle.token.specs.declared.Items.{Items}
+
+-- "at most 65,536 bytes": a place that no line has
+abbrev pub lost : ℕ
+lost = 65537
+
+-- the place past a byte
+unfoldable pub eatAt : List ℕ → ℕ → ℕ → ℕ
+eatAt line at byte = cond (ltb at (length line) && eqb (getD line at 0) byte) (at + 1) lost
+
+-- the place past a word
+unfoldable pub wordAt : List ℕ → ℕ → List ℕ → ℕ
+wordAt line at [] = at
+wordAt line at (byte ∷ word) = wordAt line (eatAt line at byte) word
+
+-- "lower-case hexadecimal digits": the value of one, 0 to 15, and 16 for any other byte; below 10 it is a decimal digit
+unfoldable pub digitOf : ℕ → ℕ
+digitOf byte =
+    cond (leb (code "0") byte && leb byte (code "9")) (byte - code "0")
+    (cond (leb (code "a") byte && leb byte (code "f")) (byte - code "a" + 10) 16)
+
+unfoldable pub digitAt : List ℕ → ℕ → ℕ
+digitAt line at = cond (ltb at (length line)) (digitOf (getD line at 0)) 16
+
+-- a value, and the place past it
+abbrev pub item : ℕ → ℕ → Item
+item value next = record { value = value; next = next }
+
+-- the item with one digit more in the base; the digit must be there
+unfoldable pub extendAt : List ℕ → ℕ → Item → Item
+extendAt line base i =
+    cond (ltb (digitAt line (i .next)) base)
+    (item (base * i .value + digitAt line (i .next)) (i .next + 1))
+    (item 0 lost)
+
+-- "HH two lower-case hexadecimal digits"
+unfoldable pub hexAt : List ℕ → ℕ → Item
+hexAt line at = extendAt line 16 (extendAt line 16 (item 0 at))
+
+-- "decimal without leading zeros": one digit more if there is one, and none after a first 0
+unfoldable pub moreAt : List ℕ → Item → Item
+moreAt line i = cond (eqb (i .value) 0 || eqb (extendAt line 10 i .next) lost) i (extendAt line 10 i)
+
+-- the item, if its value isn't above most
+unfoldable pub atMost : ℕ → Item → Item
+atMost most i = cond (leb (i .value) most) i (item 0 lost)
+
+-- "entries of 1 to 5 decimal digits without leading zeros" (a curve's): a digit, and up to four more
+unfoldable pub entryAt : List ℕ → ℕ → Item
+entryAt line at = moreAt line (moreAt line (moreAt line (moreAt line (extendAt line 10 (item 0 at)))))
+
+-- "W and U are 0 to 65535. W, U, N are decimal"
+unfoldable pub numberAt : List ℕ → ℕ → Item
+numberAt line at = atMost 65535 (entryAt line at)
+
+-- what a list is made of: HH, W or a curve's entries
+unfoldable pub itemAt : Kind → List ℕ → ℕ → Item
+itemAt Byte line at = hexAt line at
+itemAt Number line at = numberAt line at
+itemAt Entry line at = entryAt line at
+
+-- how many items a list has, and the place past its `)`
+abbrev pub items : ℕ → ℕ → Items
+items count next = record { count = count; next = next }
+
+-- the list of count items, if its `)` was found; otherwise the longer one
+abbrev pub endsAt : ℕ → ℕ → Items → Items
+endsAt next count longer = cond (eqb next lost) longer (items count next)
+
+-- "single spaces": after count items one to most more, and `)`
+unfoldable pub itemsAt : Kind → List ℕ → ℕ → ℕ → ℕ → Items
+itemsAt kind line at zero count = items 0 lost
+itemsAt kind line at (suc most) count =
+    let past : ℕ = itemAt kind line at .next in
+    endsAt (eatAt line past (code ")")) (count + 1) (itemsAt kind line (eatAt line past (code " ")) most (count + 1))
+
+-- "(W ..)", "(HH ..)", after the `(`: none to most items, and `)`
+unfoldable pub listAt : Kind → List ℕ → ℕ → ℕ → Items
+listAt kind line at most = cond (eqb at lost) (items 0 lost) (endsAt (eatAt line at (code ")")) 0 (itemsAt kind line at most 0))
+
+-- On a line of at most 65,536 bytes nothing is read at `lost`.
+module _ (line : List ℕ) (fits : length line ≤ 65536) where
+  pub lost-eats : (byte : ℕ) → eatAt line lost byte ≡ lost
+  unfolding eatAt
+  lost-eats byte = simp (le-ltb lost (length line) (omega arith))
+
+  pub lost-digit : digitAt line lost ≡ 16
+  unfolding digitAt
+  lost-digit = simp (le-ltb lost (length line) (omega arith))
