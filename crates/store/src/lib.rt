@@ -87,18 +87,18 @@ struct Advanced {
     stores: u32,
 }
 
-// A step, on the parts of a device.
-fn advance(plan: Plan, payload: &[u8], phase: Phase, stores: u32, image: &mut [u8]) -> Advanced
+// A step, on the parts of a device; a refused one is not counted.
+fn advance(plan: Plan, payload: &[u8], phase: Phase, before: u32, image: &mut [u8]) -> Advanced
     requires { ⌜ length (now payload) ≡ 256 ⌝ }
     ensures { λ r. ⌜ Gives (answer (r .number) plan (now (payload .entry)) (r .phase) (r .stores)) (now (image .exit))
-        (step (modelled (held plan (now (payload .entry)) phase stores)) (now (image .entry))) ⌝ }
+        (step (modelled (held plan (now (payload .entry)) phase before)) (now (image .entry))) ⌝ }
 {
     let number = step_number(plan, phase, image.len());
     if number != 0 {
         return Advanced {
             number: number,
             phase: phase,
-            stores: stores,
+            stores: before,
         };
     }
     make_store(plan, payload, phase, &mut image[..]);
@@ -106,7 +106,7 @@ fn advance(plan: Plan, payload: &[u8], phase: Phase, stores: u32, image: &mut [u
     Advanced {
         number: 0,
         phase: after,
-        stores: count_one(stores),
+        stores: count_one(before),
     }
 }
 
@@ -162,7 +162,7 @@ fn advance_by(
 }
 
 impl Device {
-    // A device for a plan: Cold, with a zero payload. Refused (1, 2): the device that is all zeros.
+    // A device for a plan: Cold, with a zero payload and no store counted. Refused (1, 2): the device that is all zeros.
     pub fn start(plan: Plan) -> Answer
         ensures { λ r. ⌜ Starts r (start plan) ⌝ }
     {
@@ -183,7 +183,7 @@ impl Device {
         }
     }
 
-    // Zeros in all units, every marker OK; the device is then Ready. Refused: 1 to 5.
+    // Zeros in all units, every marker OK; the device is then Ready, with no store counted. Refused: 1 to 5.
     pub fn format(self, image: &mut [u8]) -> Answer
         ensures { λ r. ⌜ Gives r (now (image .exit)) (format (modelled self) (now (image .entry))) ⌝ }
     {
@@ -232,7 +232,7 @@ impl Device {
         }
     }
 
-    // Makes the next store of a write or a cleanup, one byte. Refused: 1 to 5.
+    // Makes the next store of a write or a cleanup, one byte, and counts it. Refused: 1 to 5.
     pub fn step(self, image: &mut [u8]) -> Answer
         ensures { λ r. ⌜ Gives r (now (image .exit)) (step (modelled self) (now (image .entry))) ⌝ }
     {
@@ -306,7 +306,8 @@ impl Device {
         }
     }
 
-    // The device that a power cut leaves: the image has the next store, if there is one, torn by m. Refused: 1 to 4.
+    // The device that a power cut leaves: the image has the next store, if there is one, torn by m. A torn store isn't counted.
+    // Refused: 1 to 4.
     pub fn cut(self, image: &mut [u8], m: u8) -> Answer
         ensures { λ r. ⌜ Gives r (now (image .exit)) (cut (modelled self) (now (image .entry)) m) ⌝ }
     {

@@ -19,7 +19,7 @@ step-number-requires c κs = search needs
 returns : tie.Need-returns
 unfolding model.step stepNumber
 returns c = let a = c .before .before .before .before .args in
-    refused (held (a .plan) (now (a .payload)) (a .phase) (a .stores)) (now (a .image)) _ _ _ (c .before .step-number .ensures) (c .if1 .taken)
+    refused (held (a .plan) (now (a .payload)) (a .phase) (a .before)) (now (a .image)) _ _ _ (c .before .step-number .ensures) (c .if1 .taken)
 
 make-store-requires : tie.Need-make-store-requires
 unfolding stepNumber
@@ -41,7 +41,7 @@ same-length c = search needs
 returns-2 : tie.Need-returns-2
 unfolding model.step model.imageAfter stepNumber
 returns-2 c = let a = c .before .before .before .before .before .before .before .before .before .before .before .args in
-    let d = held (a .plan) (now (a .payload)) (a .phase) (a .stores) in
+    let d = held (a .plan) (now (a .payload)) (a .phase) (a .before) in
     let made = c .before .before .before .before .before .make-store .ensures in
     let next = c .before .phase-after .ensures ∙ ap (λ (x : List ℕ). model.phaseAfter (d .plan) x (d .phase)) made in
     accepted _ _ d (now (a .image)) _ _ _ (c .before .before .before .before .before .before .before .before .step-number .ensures) (c .before .before .before .before .before .before .before .if1 .left)
