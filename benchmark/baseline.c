@@ -19,7 +19,7 @@ struct device {
     uint32_t stores;
 };
 
-struct answer { uint16_t number; struct device device; };
+struct answer { struct device device; uint16_t number; };
 
 static size_t base_of(const struct plan *plan, uint16_t unit) {
     size_t sum = 0;
