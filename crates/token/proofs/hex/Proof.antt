@@ -1,7 +1,9 @@
 -- `token::hex` meets its contract: two digits, each by what `extend` ensures.
+use mathlib.Core.Path.{ap, _∙_}
+use denote.Ref.{now}
 use native.Mathlib.Omega.{arith}
 use borrow.Author.Needs.{needs}
-use Rattle.token.specs.Token.{hexAt}
+use Rattle.token.specs.Token.{extendAt, hexAt}
 use Rattle.token.proofs.hex.Statement.{statement}
 use Rattle.token.proofs.hex.Tie as tie
 
@@ -13,7 +15,8 @@ extend-requires-2 c κs = search needs
 
 returns : tie.Need-returns
 unfolding hexAt
-returns c = (cc, omega arith)
+returns c = let a = c .before .before .before .args in
+    (c .extend2 .ensures .0 ∙ ap (extendAt (now (a .line)) 16) (c .before .extend .ensures .0), omega arith)
 
 pub hex-spec : {M : Type 1} → statement M
 hex-spec = tie.close (tie.spec extend-requires extend-requires-2 returns)

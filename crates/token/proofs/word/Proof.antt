@@ -1,6 +1,7 @@
 -- `token::word` meets its contract: the loop keeps the place that is left to reach; a turn is one `word-step`.
-use Prim.Native.Nat.{_-_, _≤_}
-use mathlib.Core.Path.{_≡_, refl, _∙_}
+use Prim.Native.Nat.{ℕ, _+_, _-_, _≤_}
+use mathlib.Core.Path.{_≡_, refl, ap, sym, _∙_}
+use denote.Ref.{now}
 use lib.ListN.{length, drop}
 use native.Mathlib.Omega.{arith}
 use borrow.Author.Needs.{needs}
@@ -31,7 +32,12 @@ loop-less : tie.Need-loop-less Inv-loop μ-loop
 loop-less c = search needs
 
 loop-again : tie.Need-loop-again Inv-loop μ-loop
-loop-again c = (omega arith, cc (word-step _ _ _ _ (c .before .before .loop-test .taken)))
+loop-again c = let l = c .before .before .before .loop in
+    let a = c .before .before .before .before .before .before .args in (
+      omega arith,
+      ap (λ (at : ℕ). wordAt (now (a .line)) at (drop (l .i + 1) (now (a .word)))) (c .eat .ensures)
+          ∙ sym (word-step _ _ _ _ (c .before .before .loop-test .taken)) ∙ l .inv .1,
+    )
 
 returns : tie.Need-returns Inv-loop μ-loop
 returns c = word-end _ _ _ _ (c .loop-test .left) ∙ c .before .loop .inv .1
