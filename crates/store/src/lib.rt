@@ -35,7 +35,7 @@ pub struct Device {
     pub stores: u32,
 }
 
-// The device stands first: with the count in it, a number before it would leave a gap, and a pass would copy the device twice more.
+// The device stands first: with the number before it a pass takes 130 instructions more, in copies (docs/tickets/05.md).
 pub struct Answer {
     pub device: Device,
     pub number: u16,
