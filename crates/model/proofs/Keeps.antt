@@ -411,7 +411,7 @@ module _ (p : Plan) (ok : PlanOk p) (before : List ℕ) (l : Ledger) (o : Outcom
       go (mending j hj job mk hs ht) = other-job isCold _ _ e job refl refl
 
   -- ---- begin
-  begin-kept : (v : ℕ) (payload : List ℕ) → Began (judged p l) v payload
+  begin-kept : (v : ℕ) (payload : List ℕ) → Began (judged p l) v (length payload)
       → Inv p before (accepted p l (begin v payload)) (outcome 0 (asBegun v (padded payload) d) image)
   unfolding accepted
   begin-kept v payload began = go (inv .stage)
@@ -469,7 +469,7 @@ module _ (p : Plan) (ok : PlanOk p) (before : List ℕ) (l : Ledger) (o : Outcom
   pub keeps : (c : Call) → Agrees (told p l c) (accepted p l c) (call c o)
   unfolding call calls.begin calls.step calls.cut calls.wake told
   keeps (begin v payload) =
-      settle _ _ _ _ (begin-alike alike v payload) refl (λ h. begin-kept v payload (begin-says (judged p l) v payload h))
+      settle _ _ _ _ (begin-alike alike v (length payload)) refl (λ h. begin-kept v payload (begin-says (judged p l) v (length payload) h))
   keeps step = settle _ _ _ _ (step-alike alike) refl step-kept
   keeps (cut m) = settle _ _ _ _ (cut-alike alike) refl (λ h. cut-kept m)
   keeps wake = settle _ _ _ _ (wake-alike alike) refl (λ h. wake-kept (wake-says (judged p l) h))

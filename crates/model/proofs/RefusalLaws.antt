@@ -168,21 +168,21 @@ wake-says v e = cold-only (v .job) (go (not (isCold (v .job))) refl)
     go true h = absurd (omega (arith, e, wake-awake v (first-front (deviceRow v) _ e) h))
     go false h = refl
 
-pub record Began (v : View) (u : ℕ) (payload : List ℕ) : Type 0 where
+pub record Began (v : View) (u n : ℕ) : Type 0 where
   pub job : v .job ≡ ready
   pub unit : u < v .plan .count
-  pub size : length payload ≡ width (v .plan) u
+  pub size : n ≡ width (v .plan) u
 
-pub begin-says : (v : View) (u : ℕ) (payload : List ℕ) → beginNumber v u payload ≡ 0 → Began v u payload
+pub begin-says : (v : View) (u n : ℕ) → beginNumber v u n ≡ 0 → Began v u n
 unfolding beginNumber
-begin-says v u payload e =
+begin-says v u n e =
     let h₅ = first-past 4 (not (isReady (v .job))) _ (past v _ e .more) in
     let h₆ = first-past 5 (leb (v .plan .count) u) _ (h₅ .1) in
-    let h₇ = first-past 6 (not (eqb (length payload) (width (v .plan) u))) _ (h₆ .1) in
+    let h₇ = first-past 6 (not (eqb n (width (v .plan) u))) _ (h₆ .1) in
     record {
       job = ready-only (v .job) (h₅ .0);
       unit = leb-false (v .plan .count) u (h₆ .0);
-      size = eqb-true (length payload) (width (v .plan) u) (not-false _ (h₇ .0));
+      size = eqb-true n (width (v .plan) u) (not-false _ (h₇ .0));
     }
 
 -- ---- when it is 0
@@ -260,9 +260,9 @@ module _ {v v′ : View} (a : Alike v v′) where
   unfolding wakeNumber
   wake-alike = rw (a .plan, a .short, a .job, foreign-alike (v .marker) (v′ .marker) (v′ .plan .count) (a .marker))
 
-  pub begin-alike : (u : ℕ) (payload : List ℕ) → beginNumber v u payload ≡ beginNumber v′ u payload
+  pub begin-alike : (u n : ℕ) → beginNumber v u n ≡ beginNumber v′ u n
   unfolding beginNumber
-  begin-alike u payload =
+  begin-alike u n =
       elim (order u (v′ .plan .count)) [
         | below l ↦ rw (a .plan, a .short, a .job, a .marker u l)
         | above l ↦

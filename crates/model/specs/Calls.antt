@@ -151,7 +151,7 @@ format d image =
 -- "stores nothing; the payload goes into the device"
 unfoldable pub begin : Device → List ℕ → ℕ → List ℕ → Outcome
 begin d image u payload =
-    unlessRefused (beginNumber (view d image) u payload) d image (outcome 0 (asBegun u (padded payload) d) image)
+    unlessRefused (beginNumber (view d image) u (length payload)) d image (outcome 0 (asBegun u (padded payload) d) image)
 
 -- "makes the next store and adds 1"
 unfoldable pub step : Device → List ℕ → Outcome

@@ -4,7 +4,7 @@ use Prim.Native.Nat.{ℕ, zero, suc, _+_, _*_}
 use mathlib.Core.List.{List, [], _∷_}
 use mathlib.Core.Bool.{Bool, true, false, cond, not, _&&_}
 use lib.Dec.{eqb}
-use lib.ListN.{replicate}
+use lib.ListN.{length, replicate}
 use Rattle.model.specs.declared.Plan.{Plan}
 use Rattle.model.specs.Marker.{OK, A, B, End, completed, tornBy, markerLeft}
 use Rattle.model.specs.Plans.{width}
@@ -47,7 +47,7 @@ judged p l = record { plan = p; short = false; job = l .job; marker = markerOf l
 
 -- "In the list each call answers that refusal's number, otherwise 0."
 unfoldable pub told : Plan → Ledger → Call → ℕ
-told p l (begin u payload) = beginNumber (judged p l) u payload
+told p l (begin u payload) = beginNumber (judged p l) u (length payload)
 told p l step = stepNumber (judged p l)
 told p l (cut m) = cutNumber (judged p l)
 told p l wake = wakeNumber (judged p l)

@@ -5,7 +5,6 @@ use Prim.Native.Nat.{ℕ, zero, suc, _+_, _*_}
 use mathlib.Core.List.{List, [], _∷_, _++_}
 use mathlib.Core.Bool.{Bool, true, false, cond, not, _||_}
 use lib.Dec.{eqb, ltb, leb}
-use lib.ListN.{length}
 use Rattle.model.specs.declared.Plan.{Plan}
 unfoldable pub use Rattle.model.specs.Plans.{badCount, badWidths}
 use Rattle.model.specs.Plans.{width}
@@ -104,12 +103,12 @@ readNumber v u =
     (deviceRow v
     ++ (5 when not (isReady (v .job)) ∷ 6 when leb (v .plan .count) u ∷ 8 when not (eqb (v .marker u) OK) ∷ []))
 
-unfoldable pub beginNumber : View → ℕ → List ℕ → ℕ
-beginNumber v u payload =
+unfoldable pub beginNumber : View → ℕ → ℕ → ℕ
+beginNumber v u size =
     first
     (deviceRow v
     ++ (5 when not (isReady (v .job))
     ∷ 6 when leb (v .plan .count) u
-    ∷ 7 when not (eqb (length payload) (width (v .plan) u))
+    ∷ 7 when not (eqb size (width (v .plan) u))
     ∷ 8 when not (eqb (v .marker u) OK)
     ∷ []))

@@ -18,15 +18,10 @@ use Rattle.layout.specs.Seen.{seen}
 use Rattle.mirror.specs.Placed.{Live}
 use Rattle.mirror.proofs.Laws.{room}
 use Rattle.mirror.proofs.Search.{marker-at}
-use Rattle.refusal.specs.Row.{unitNumber}
 
 -- ---- begin's row and read's row are one: at the unit's own width 7 does not hold
-pub begin-row : (v : View) (u : ℕ) (payload : List ℕ) → unitNumber v u (length payload) ≡ beginNumber v u payload
-unfolding beginNumber
-begin-row v u payload = refl
-
-pub read-row : (v : View) (u size : ℕ) → size ≡ width (v .plan) u → unitNumber v u size ≡ readNumber v u
-unfolding readNumber
+pub read-row : (v : View) (u size : ℕ) → size ≡ width (v .plan) u → beginNumber v u size ≡ readNumber v u
+unfolding beginNumber readNumber
 read-row v u size e =
     rw (eq-eqb size (width (v .plan) u) e)
     (first-rest _ _ _ (first-rest _ _ _ (first-rest _ _ _ (first-rest _ _ _ (first-rest _ _ _ (first-rest _ _ _

@@ -3,10 +3,9 @@
 ghost use mathlib.Core.Path.{_≡_};
 ghost use mathlib.Core.List.{[], _∷_, _++_};
 ghost use mathlib.Core.Bool.{not, _||_};
-ghost use Rattle.model.specs.Refusals.{isCold, isReady, _when_, first, deviceRow, formatNumber, wakeNumber, stepNumber, readNumber};
+ghost use Rattle.model.specs.Refusals.{isCold, isReady, _when_, first, deviceRow, formatNumber, wakeNumber, stepNumber, readNumber, beginNumber};
 ghost use Rattle.model.specs.Calls.{jobOf, viewOf};
 ghost use Rattle.layout.specs.Seen.{seen};
-ghost use Rattle.refusal.specs.Row.{unitNumber};
 use layout::base_of;
 use layout::device_number;
 use layout::width_of;
@@ -90,7 +89,7 @@ pub fn step_number(plan: Plan, phase: Phase, length: usize) -> u16
 
 // Refusals 1 to 8 of begin with a payload of `size` bytes. Read has no payload: it asks with the unit's own width.
 pub fn begin_number(plan: Plan, phase: Phase, image: &[u8], unit: u16, size: usize) -> u16
-    ensures { λ r. ⌜ r ≡ unitNumber (viewOf plan phase (now (image .entry))) unit size ⌝ }
+    ensures { λ r. ⌜ r ≡ beginNumber (viewOf plan phase (now (image .entry))) unit size ⌝ }
 {
     let number = phase_number(plan, phase, image.len(), not_ready(phase));
     if number != 0 {

@@ -50,11 +50,11 @@ module _ (p : Plan) (phase : Phase) (image : List ℕ) where
       let h₆ = first-past 5 (leb (p .count) u) _ (h₅ .1) in
       unit-inside p phase image (live p phase image k _ e z) u (leb-false (p .count) u (h₆ .0))
 
-  pub begin-narrow : (k u : ℕ) (payload : List ℕ) → k ≡ beginNumber (viewOf p phase image) u payload → k ≡ 0
+  pub begin-narrow : (k u : ℕ) (payload : List ℕ) → k ≡ beginNumber (viewOf p phase image) u (length payload) → k ≡ 0
       → length payload ≤ 256
   unfolding beginNumber
   begin-narrow k u payload e z =
-      let began = begin-says (viewOf p phase image) u payload (sym e ∙ z) in
+      let began = begin-says (viewOf p phase image) u (length payload) (sym e ∙ z) in
       let r = room p phase image (live p phase image k _ e z) in
       omega (arith, began .size, width-bounds p (r .ok) u (began .unit) .1)
 

@@ -8,6 +8,7 @@ use denote.Ref.{now}
 use borrow.Author.Tests.{le-leb, lt-leb, eq-eqb, ne-eqb}
 use borrow.Author.Needs.{needs}
 use Rattle.model.specs.Layout.{width}
+use Rattle.model.specs.Refusals.{beginNumber}
 use Rattle.model.proofs.RefusalLaws.{first-stop, first-skip, first-none}
 use Rattle.refusal.proofs.Laws.{phase-refused, phase-passed, marker-bad, marker-good, live, unit-inside}
 use Rattle.refusal.proofs.begin_number.Statement.{statement}
@@ -20,10 +21,12 @@ phase-number-requires : tie.Need-phase-number-requires
 phase-number-requires c κs = search needs
 
 returns : tie.Need-returns
+unfolding beginNumber
 returns c = let a = c .before .before .before .before .args in
     phase-refused (a .plan) (a .phase) (length (now (a .image))) _ _ (c .before .phase-number .ensures) (c .before .before .not-ready .ensures) (c .if1 .taken) _
 
 returns-2 : tie.Need-returns-2
+unfolding beginNumber
 returns-2 c = let a = c .before .before .before .before .before .before .args in
     sym (phase-passed (a .plan) (a .phase) (length (now (a .image))) _ _ (c .before .before .before .phase-number .ensures) (c .before .before .before .before .not-ready .ensures) (c .before .before .if1 .left) _
     ∙ first-stop 6 _ _ (le-leb _ _ (c .if2 .taken)))
@@ -35,6 +38,7 @@ cast-if3 : tie.Need-cast-if3
 cast-if3 c = search needs
 
 returns-3 : tie.Need-returns-3
+unfolding beginNumber
 returns-3 c = let a = c .before .before .before .before .before .before .before .before .args in
     sym (phase-passed (a .plan) (a .phase) (length (now (a .image))) _ _ (c .before .before .before .before .before .phase-number .ensures) (c .before .before .before .before .before .before .not-ready .ensures) (c .before .before .before .before .if1 .left) _
     ∙ first-skip 6 _ _ (lt-leb _ _ (c .before .before .if2 .left))
@@ -49,6 +53,7 @@ shared-slice-read-if4 c = let a = c .before .before .before .before .before .bef
     omega (arith, unit-inside (a .plan) (a .phase) (now (a .image)) l (a .unit) (c .before .before .before .before .if2 .left), c .before .base-of .ensures .0)
 
 returns-4 : tie.Need-returns-4
+unfolding beginNumber
 returns-4 c = let a = c .before .before .before .before .before .before .before .before .before .before .before .args in
     sym (phase-passed (a .plan) (a .phase) (length (now (a .image))) _ _ (c .before .before .before .before .before .before .before .before .phase-number .ensures) (c .before .before .before .before .before .before .before .before .before .not-ready .ensures) (c .before .before .before .before .before .before .before .if1 .left) _
     ∙ first-skip 6 _ _ (lt-leb _ _ (c .before .before .before .before .before .if2 .left))
@@ -56,6 +61,7 @@ returns-4 c = let a = c .before .before .before .before .before .before .before 
     ∙ first-stop 8 _ [] (marker-bad (a .plan) (a .phase) (now (a .image)) (a .unit) _ (c .before .before .base-of .ensures .0) (c .if4 .taken)))
 
 returns-5 : tie.Need-returns-5
+unfolding beginNumber
 returns-5 c = let a = c .before .before .before .before .before .before .before .before .before .before .before .args in
     sym (phase-passed (a .plan) (a .phase) (length (now (a .image))) _ _ (c .before .before .before .before .before .before .before .before .phase-number .ensures) (c .before .before .before .before .before .before .before .before .before .not-ready .ensures) (c .before .before .before .before .before .before .before .if1 .left) _
     ∙ first-skip 6 _ _ (lt-leb _ _ (c .before .before .before .before .before .if2 .left))
