@@ -7,7 +7,6 @@ use lib.ListN.{length, getD}
 use borrow.Author.Tests.{eq-eqb, ne-eqb}
 use Rattle.model.specs.Drive.{driveNumber, driveUnlessRefused, drive}
 use Rattle.brake.specs.Over.{driveOverNumber, driveOver}
-use Rattle.brake.proofs.Accepted.{by-rule}
 use Rattle.brake.proofs.Table.{look-up}
 use Rattle.brake.proofs.Drives.{drives, tested}
 

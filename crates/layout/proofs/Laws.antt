@@ -1,7 +1,7 @@
 -- How a loop over the plan's widths comes to the plan's number, a unit at a time.
 use Prim.Native.Nat.{ℕ, zero, suc, _+_, _<_, _≤_}
 use mathlib.Core.Path.{_≡_, refl, sym, _∙_}
-use mathlib.Core.List.{List, [], _∷_}
+use mathlib.Core.List.{[], _∷_}
 use mathlib.Core.Bool.{Bool, true, false, _||_}
 use native.Mathlib.Omega.{arith}
 use native.Mathlib.Numerals.{add-one}
@@ -12,7 +12,7 @@ use Rattle.model.specs.declared.Phase.{Phase}
 use Rattle.model.specs.Layout.{width, base, total, unitLength}
 use Rattle.model.specs.Calls.{jobOf}
 use Rattle.model.specs.Refusals.{badCount, badWidths, badJob, _when_, first, deviceRow, startNumber}
-use Rattle.model.proofs.Compare.{Order, below, above, order}
+use Rattle.model.proofs.Compare.{below, above, order}
 use Rattle.model.proofs.RefusalLaws.{first-skip, first-stop, first-none, plan-passed}
 use Rattle.layout.specs.Seen.{seen}
 

@@ -1,7 +1,6 @@
 -- What refusals 1 to 4 look at.
 use Prim.Native.Nat.{ℕ}
-use mathlib.Core.Bool.{Bool}
-use lib.Dec.{ltb, leb}
+use lib.Dec.{ltb}
 use Rattle.model.specs.declared.Plan.{Plan}
 use Rattle.model.specs.declared.Phase.{Phase}
 use Rattle.model.specs.Layout.{total}

@@ -3,7 +3,7 @@ use Prim.Native.Nat.{ℕ, zero, suc, _+_, _-_, _≤_, _<_}
 use mathlib.Core.Path.{_≡_, refl, ap, sym, _∙_}
 use mathlib.Core.List.{List}
 use mathlib.Core.Option.{Option, none, some}
-use mathlib.Core.Bool.{Bool, true, false, _||_}
+use mathlib.Core.Bool.{true, false, _||_}
 use native.Mathlib.Omega.{arith}
 use lib.ListN.{getD}
 use borrow.Author.Tests.{eq-eqb, ne-eqb}
@@ -14,7 +14,7 @@ use Rattle.model.specs.Marker.{OK, meaning, isForeign, direction}
 use Rattle.model.specs.Refusals.{anyForeign}
 use Rattle.model.specs.Layout.{marker, base, get}
 use Rattle.model.specs.Calls.{cleanupAmong, cleanupFrom, lowestBad}
-use Rattle.model.proofs.Compare.{Same, equal, differ, same}
+use Rattle.model.proofs.Compare.{equal, differ, same}
 
 module _ (p : Plan) (image : List ℕ) (u b : ℕ) (is : b ≡ base p u) where
   pub marker-at : getD image b 0 ≡ get p image u marker

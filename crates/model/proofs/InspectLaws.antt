@@ -9,7 +9,7 @@ use Rattle.model.specs.declared.Plan.{Plan}
 use Rattle.model.specs.Marker.{OK}
 use Rattle.model.specs.Layout.{marker, get}
 use Rattle.model.specs.Calls.{AllMarkersOk, lowestBad}
-use Rattle.model.proofs.Compare.{Same, equal, differ, same}
+use Rattle.model.proofs.Compare.{equal, differ, same}
 
 module _ (p : Plan) (image : List ℕ) where
   abbrev Good : ℕ → Type 0

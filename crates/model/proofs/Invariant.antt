@@ -1,7 +1,7 @@
 -- What holds of ledger, device and image between two calls of a list from a formatted device.
-use Prim.Native.Nat.{ℕ, zero, suc, _+_, _*_, _≤_, _<_}
-use mathlib.Core.Path.{_≡_, refl, ap, sym, _∙_}
-use mathlib.Core.List.{List, [], _∷_}
+use Prim.Native.Nat.{ℕ, suc, _+_, _≤_, _<_}
+use mathlib.Core.Path.{_≡_, refl, _∙_}
+use mathlib.Core.List.{List}
 use mathlib.Core.Option.{some}
 use mathlib.Core.Bool.{Bool, true, false, cond}
 use native.Mathlib.Omega.{arith}
@@ -18,9 +18,9 @@ use Rattle.model.specs.Refusals as refusals
 use Rattle.model.specs.Stores.{store, source, target, stored}
 use Rattle.model.specs.Ledger.{Ledger, saving}
 use Rattle.model.specs.Calls.{Outcome, jobOf}
-use Rattle.model.proofs.Compare.{Same, equal, differ, same}
+use Rattle.model.proofs.Compare.{equal, differ, same}
 use Rattle.model.proofs.RefusalLaws.{PlanOk}
-use Rattle.model.proofs.LayoutLaws.{InUnit, Apart, bytes-apart, Elsewhere, Near, get-put-same, get-put-cell}
+use Rattle.model.proofs.LayoutLaws.{bytes-apart, Elsewhere, Near, get-put-same, get-put-cell}
 use Rattle.model.proofs.LedgerLaws.{saving-same, saving-other}
 
 -- the first n bytes of copy c of unit u are those of f

@@ -1,36 +1,35 @@
 -- Each call keeps the invariant and answers what the ledger tells.
 -- A step and a cut end the same store, completed or torn, so each of the seven kinds of store is gone through once, for both.
-use Prim.Native.Nat.{ℕ, zero, suc, _+_, _-_, _*_, _≤_, _<_}
-use mathlib.Core.Path.{_≡_, refl, ap, ap₂, sym, _∙_, subst₂}
-use mathlib.Core.List.{List, [], _∷_, _++_}
+use Prim.Native.Nat.{ℕ, zero, suc, _+_, _-_, _<_}
+use mathlib.Core.Path.{_≡_, refl, ap, sym, _∙_, subst₂}
+use mathlib.Core.List.{List}
 use mathlib.Core.Option.{some}
-use mathlib.Core.Bool.{Bool, true, false, cond, not, true≢false}
+use mathlib.Core.Bool.{Bool, true, false, cond, true≢false}
 use native.Mathlib.Omega.{arith}
-use lib.Dec.{eqb}
 use lib.ListN.{length, getD, replicate, List·getD-append}
 use borrow.Author.Tests.{eq-eqb, ne-eqb, le-ltb}
 use Rattle.model.specs.declared.Plan.{Plan}
 use Rattle.model.specs.declared.Direction.{Direction}
 use Rattle.model.specs.declared.Direction.the-variants.{AToB}
 use Rattle.model.specs.declared.Phase.{Phase}
-use Rattle.model.specs.declared.Phase.the-variants.{Cold, Ready, Writing, Recovering}
-use Rattle.model.specs.Marker.{OK, A, B, direction, End, completed, tornBy, markerLeft, torn}
-use Rattle.model.specs.Layout.{Copy, copyA, copyB, marker, byte, width, total, get}
-use Rattle.model.specs.Refusals.{Job, View, isCold, isReady, stepNumber}
+use Rattle.model.specs.declared.Phase.the-variants.{Ready, Writing, Recovering}
+use Rattle.model.specs.Marker.{OK, A, B, direction, End, completed, tornBy, markerLeft}
+use Rattle.model.specs.Layout.{copyA, copyB, marker, byte, width, total, get}
+use Rattle.model.specs.Refusals.{Job, isCold, isReady, stepNumber}
 use Rattle.model.specs.Refusals as refusals
 use Rattle.model.specs.Stores.{Store, store, source, target, stored}
 use Rattle.model.specs.Calls.{Device, Outcome, outcome, padded, asBegun, asStepped, asWoken, asCut, view, jobOf, next, imageAfter, phaseAfter, cleanupFrom}
 use Rattle.model.specs.Calls as calls
-use Rattle.model.specs.Ledger.{Ledger, Call, begin, step, cut, wake, markerOf, judged, told, saving, accepted, fed}
+use Rattle.model.specs.Ledger.{Ledger, Call, begin, step, cut, wake, markerOf, judged, told, saving, accepted}
 use Rattle.model.specs.Ledger as ledger
 use Rattle.model.specs.PowerCut.{call}
-use Rattle.model.proofs.Compare.{Order, below, above, order, Same, equal, differ, same}
-use Rattle.model.proofs.RefusalLaws.{PlanOk, width-bounds, Alike, step-alike, cut-alike, wake-alike, begin-alike, step-cold, step-ready, wake-says, begin-says, Began}
+use Rattle.model.proofs.Compare.{below, above, order, Same, equal, differ, same}
+use Rattle.model.proofs.RefusalLaws.{PlanOk, Alike, step-alike, cut-alike, wake-alike, begin-alike, step-cold, step-ready, wake-says, begin-says, Began}
 use Rattle.model.proofs.LayoutLaws.{Near, stored-near, stored-marker}
 use Rattle.model.proofs.MarkerLaws.{torn-A-to-B, direction-A, direction-other}
 use Rattle.model.proofs.StoreLaws.{next-A, next-to-A, next-B, next-to-B, next-OK, next-copy, next-settle, write-goes-on, write-ends, cleanup-goes-on, cleanup-ends, none-found, lowest-found}
 use Rattle.model.proofs.LedgerLaws.{at, noted, then, decides, own-marker, saving-same, notes-A, notes-byte, notes-B, notes-OK, notes-copy, notes-settle}
-use Rattle.model.proofs.Invariant.{Has, Whole, Both, Clean, Frame, Safe, twice, once, Loaded, Stage, resting, off, opened, toA, toB, mending, phased, job-phased, Inv, source-off-target, both-of, has-near, whole-near, frame-near, has-more, all-clean, frame-to, frame-saving}
+use Rattle.model.proofs.Invariant.{Has, Whole, Both, Clean, Frame, Safe, twice, once, Loaded, Stage, resting, off, opened, toA, toB, mending, phased, job-phased, Inv, source-off-target, both-of, whole-near, frame-near, has-more, all-clean, frame-to, frame-saving}
 
 module _ (p : Plan) (ok : PlanOk p) (before : List ℕ) (l : Ledger) (o : Outcome) (inv : Inv p before l o) where
   abbrev d : Device

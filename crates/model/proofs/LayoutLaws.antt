@@ -2,16 +2,16 @@
 -- and nothing past the units.
 use Prim.Native.Nat.{ℕ, zero, suc, _+_, _-_, _*_, _≤_, _<_, min}
 use mathlib.Core.Path.{_≡_, refl, ap, sym, _∙_}
-use mathlib.Core.List.{List, [], _∷_, _++_}
+use mathlib.Core.List.{List, _∷_, _++_}
 use mathlib.Core.Option.{Option, none, some}
 use native.Mathlib.Omega.{arith}
-use lib.ListN.{length, getD, set, take, drop, replicate, length-set, length-append, length-replicate, length-take, length-drop, getD-replicate, List·getD-append}
+use lib.ListN.{length, getD, take, drop, replicate, length-set, length-append, length-replicate, length-take, length-drop, getD-replicate, List·getD-append}
 use lib.Seq.{getD-set-same, getD-set-other, drop-set-lt, getD-take, getD-drop, getD-append-add, ext-getD, drop-at}
 use Rattle.model.specs.declared.Plan.{Plan}
 use Rattle.model.specs.Layout.{Copy, copyA, copyB, Cell, marker, byte, width, unitLength, offset, base, total, place, get, put, copyOf, fresh, formatted}
-use Rattle.model.specs.Marker.{OK, End, completed, markerLeft}
+use Rattle.model.specs.Marker.{OK, End, markerLeft}
 use Rattle.model.specs.Stores.{Store, store, cellLeft, stored}
-use Rattle.model.proofs.Compare.{Order, below, above, order}
+use Rattle.model.proofs.Compare.{below, above, order}
 use Rattle.model.proofs.RefusalLaws.{PlanOk}
 
 -- a store keeps the image's length

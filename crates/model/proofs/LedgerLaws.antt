@@ -1,8 +1,8 @@
 -- What the ledger notes of each store: by the store's number, the unit's marker and whether the write passes.
 use Prim.Native.Nat.{ℕ, zero, suc, _+_, _*_, _≤_, _<_}
-use mathlib.Core.Path.{_≡_, refl, ap, ap₂, sym, _∙_}
+use mathlib.Core.Path.{_≡_, refl, ap, _∙_}
 use mathlib.Core.List.{List, [], _∷_}
-use mathlib.Core.Bool.{Bool, true, false, cond, not, _&&_}
+use mathlib.Core.Bool.{Bool, true, false, cond, not}
 use native.Mathlib.Omega.{arith}
 use lib.Dec.{eqb}
 use borrow.Author.Tests.{eq-eqb, ne-eqb}
@@ -10,7 +10,7 @@ use Rattle.model.specs.declared.Plan.{Plan}
 use Rattle.model.specs.Marker.{OK, A, B, End, completed, tornBy, markerLeft}
 use Rattle.model.specs.Layout.{width}
 use Rattle.model.specs.Refusals.{Job, cold, ready, writing, recovering, anyForeign}
-use Rattle.model.specs.Ledger.{Ledger, Call, begin, step, cut, wake, opening, markerOf, told, writeMarker, cleanupMarker, passes, saving, wrote, cleaned, stepped, wasCut, accepted, unlessRefused, fed, after}
+use Rattle.model.specs.Ledger.{Ledger, Call, begin, step, cut, wake, opening, markerOf, told, writeMarker, cleanupMarker, passes, saving, wrote, stepped, wasCut, accepted, unlessRefused, fed, after}
 use Rattle.model.proofs.MarkerLaws.{not-foreign, torn-small}
 
 -- the ledger at job j with unit u last written, its marker m

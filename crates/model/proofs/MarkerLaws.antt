@@ -4,8 +4,7 @@ use mathlib.Core.Path.{_≡_, refl, ap, sym, _∙_}
 use mathlib.Core.Bool.{Bool, true, false, cond}
 use native.Mathlib.Omega.{arith}
 use lib.Dec.{eqb, ltb}
-use borrow.Author.Tests.{eq-eqb, ne-eqb, lt-ltb}
-use Rattle.model.specs.declared.Direction.{Direction}
+use borrow.Author.Tests.{ne-eqb, lt-ltb}
 use Rattle.model.specs.declared.Direction.the-variants.{AToB, BToA}
 use Rattle.model.specs.declared.Marker.the-variants.{Clean, WritingToA, WritingToB, Corrupted, Foreign}
 use Rattle.model.specs.Marker.{OK, A, B, FOREIGN, meaning, isForeign, way, direction, tornBits, torn}

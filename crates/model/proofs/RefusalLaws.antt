@@ -1,5 +1,5 @@
 -- What a refusal table's answer 0 says, and when it is 0.
-use Prim.Native.Nat.{ℕ, zero, suc, _+_, _*_, _≤_, _<_}
+use Prim.Native.Nat.{ℕ, zero, suc, _+_, _≤_, _<_}
 use mathlib.Core.Path.{_≡_, refl, ap, sym, _∙_}
 use mathlib.Core.List.{List, [], _∷_, _++_}
 use mathlib.Core.Bool.{Bool, true, false, cond, not, _||_, _&&_, true≢false, false≢true}
@@ -9,9 +9,8 @@ use lib.ListN.{length}
 use borrow.Author.Tests.{ltb-true, ltb-false, leb-false, eqb-true, eqb-false, lt-leb, le-leb, not-false}
 use Rattle.model.specs.declared.Plan.{Plan}
 use Rattle.model.specs.Layout.{width}
-use Rattle.model.specs.Marker.{OK}
 use Rattle.model.specs.Refusals.{Job, cold, ready, writing, recovering, isCold, isReady, writeTotal, cleanupTotal, View, badCount, badWidths, badJob, Refusal, _when_, first, planRow, deviceRow, anyForeign, startNumber, formatNumber, wakeNumber, stepNumber, cutNumber, beginNumber}
-use Rattle.model.proofs.Compare.{Order, below, above, order}
+use Rattle.model.proofs.Compare.{below, above, order}
 
 -- ---- the first refusal that holds
 pub first-past : (n : ℕ) (t : Bool) (rest : List Refusal) → first (suc n when t ∷ rest) ≡ 0 → (t ≡ false) × (first rest ≡ 0)

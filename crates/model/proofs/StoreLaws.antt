@@ -1,23 +1,20 @@
 -- Which store comes next, by the number of stores made, and the phase after it.
-use Prim.Native.Nat.{ℕ, zero, suc, _+_, _-_, _*_, _≤_, _<_}
-use mathlib.Core.Path.{_≡_, refl, ap, sym, _∙_}
-use mathlib.Core.List.{List, [], _∷_, _++_}
-use mathlib.Core.Option.{Option, none, some}
-use mathlib.Core.Bool.{cond}
+use Prim.Native.Nat.{ℕ, zero, suc, _+_, _-_, _≤_, _<_}
+use mathlib.Core.Path.{_≡_, refl, ap, _∙_}
+use mathlib.Core.List.{List, _++_}
+use mathlib.Core.Option.{some}
 use native.Mathlib.Omega.{arith}
-use lib.Dec.{eqb}
 use lib.ListN.{getD, getElem?}
 use borrow.Author.Tests.{eq-eqb, ne-eqb}
 use Rattle.model.specs.declared.Plan.{Plan}
 use Rattle.model.specs.declared.Direction.{Direction}
-use Rattle.model.specs.declared.Phase.{Phase}
 use Rattle.model.specs.declared.Phase.the-variants.{Ready, Writing, Recovering}
 use Rattle.model.specs.Marker.{OK, A, B, direction}
 use Rattle.model.specs.Layout.{Copy, copyA, copyB, marker, byte, width, get}
 use Rattle.model.specs.Refusals.{writeTotal, cleanupTotal}
 use Rattle.model.specs.Stores.{Store, store, copying, writeStores, source, target, cleanupStores}
 use Rattle.model.specs.Calls.{next, cleanupAmong, cleanupFrom, phaseAfter}
-use Rattle.model.proofs.Compare.{Order, below, above, order}
+use Rattle.model.proofs.Compare.{below, above, order}
 
 -- ---- within a run of copied bytes, and past it
 module _ (u : ℕ) (c : Copy) (f : ℕ → ℕ) (rest : List Store) where

@@ -1,17 +1,17 @@
 -- THE POWER-CUT THEOREM, proved: the invariant along a list of calls, and the repair after its closing cut.
-use Prim.Native.Nat.{ℕ, zero, suc, _+_, _*_, _≤_, _<_}
+use Prim.Native.Nat.{ℕ, zero, suc, _+_, _≤_, _<_}
 use mathlib.Core.Path.{_≡_, refl, ap, ap₂, sym, _∙_, subst}
 use mathlib.Core.List.{List, [], _∷_, _++_}
-use mathlib.Core.Bool.{Bool, true, false, true≢false}
+use mathlib.Core.Bool.{true, false, true≢false}
 use native.Mathlib.Omega.{arith}
-use lib.ListN.{length, take, drop, replicate, length-replicate, getD-replicate}
+use lib.ListN.{length, take, replicate, length-replicate, getD-replicate}
 use borrow.Author.Tests.{eq-eqb, ne-eqb, le-ltb, ltb-false}
 use Rattle.model.specs.declared.Plan.{Plan}
 use Rattle.model.specs.declared.Phase.the-variants.{Ready}
 use Rattle.model.specs.Marker.{OK, direction, completed}
-use Rattle.model.specs.Layout.{Copy, marker, byte, width, total, get, copyOf, formatted}
+use Rattle.model.specs.Layout.{Copy, marker, byte, width, total, get, formatted}
 use Rattle.model.specs.Refusals.{Job, cold, ready, writing, recovering, isReady, badJob, formatNumber, startNumber}
-use Rattle.model.specs.Calls.{Device, Outcome, outcome, AllMarkersOk, asStarted, asFormatted, view, jobOf}
+use Rattle.model.specs.Calls.{Device, Outcome, outcome, asStarted, asFormatted, view, jobOf}
 use Rattle.model.specs.Calls as calls
 use Rattle.model.specs.Ledger.{Ledger, Call, step, cut, wake, opening, judged, told, accepted, fed, tells, after, wasCut}
 use Rattle.model.specs.Ledger as ledger
@@ -20,9 +20,9 @@ use Rattle.model.specs.Foreign.{NeverForeign}
 use Rattle.model.proofs.Compare.{Same, equal, differ, same}
 use Rattle.model.proofs.RefusalLaws.{PlanOk, count-bounds, start-says, format-says, format-cold, job-writing, job-recovering, wake-cold, cut-any, step-recovering}
 use Rattle.model.proofs.LayoutLaws.{copy-is, get-formatted, length-formatted, rest-formatted}
-use Rattle.model.proofs.LedgerLaws.{at, own-marker, notes-copy, notes-settle, none-foreign, ledger-small}
-use Rattle.model.proofs.Invariant.{Has, Whole, Both, Clean, Frame, Stage, resting, off, opened, toA, toB, mending, phased, job-phased, Inv, all-clean}
-use Rattle.model.proofs.Keeps.{Agrees, keeps}
+use Rattle.model.proofs.LedgerLaws.{at, notes-copy, notes-settle, none-foreign, ledger-small}
+use Rattle.model.proofs.Invariant.{Whole, Clean, Stage, resting, off, opened, toA, toB, mending, phased, job-phased, Inv, all-clean}
+use Rattle.model.proofs.Keeps.{keeps}
 
 -- ---- a formatted device
 opens : (p : Plan) (before : List ℕ) (o : Outcome) → PlanOk p → total p ≤ length before → o .device .plan ≡ p → o .device .phase ≡ Ready

@@ -15,7 +15,7 @@ use Rattle.model.specs.Refusals.{Job, cold, ready, writing, recovering, 
 use Rattle.model.specs.Calls.{Device, Answer, Outcome, outcome, view, zeroPayload}
 use Rattle.model.specs.Calls as calls
 use Rattle.model.specs.Ledger.{Call, begin, step, cut, wake, Ledger, opening, tells, after}
-use Rattle.model.specs.PowerCut.{call, run}
+use Rattle.model.specs.PowerCut.{call}
 
 -- ---- Refusals. A row has a situation, in which whatever a later row mends is still wrong, and the number of each call there.
 pub record Numbers : Type 0 where

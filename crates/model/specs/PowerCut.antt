@@ -3,7 +3,7 @@
 -- Format a device. Then let anything happen: begins of any unit with any payload, steps, power cuts that leave any byte, wakes,
 -- in any order, calls that are refused among them; and at last one more cut. Then one wake and an exact number of steps bring
 -- every marker to OK and both copies of every unit to the payload of its last write that passed.
-use Prim.Native.Nat.{ℕ, zero, suc, _+_, _≤_, _<_}
+use Prim.Native.Nat.{ℕ, _+_, _≤_, _<_}
 use mathlib.Core.Path.{_≡_}
 use mathlib.Core.List.{List, [], _∷_, _++_}
 use lib.ListN.{length, drop, replicate}
@@ -13,7 +13,7 @@ use Rattle.model.specs.Marker.{OK}
 use Rattle.model.specs.Layout.{Copy, marker, width, total, get, copyOf}
 use Rattle.model.specs.Calls.{Device, Outcome, AllMarkersOk}
 use Rattle.model.specs.Calls as calls
-use Rattle.model.specs.Ledger.{Call, begin, step, cut, wake, Ledger, opening, tells, after}
+use Rattle.model.specs.Ledger.{Call, begin, step, cut, wake, opening, tells, after}
 
 -- ---- Lists of calls: each call gets the device and the image that the one before left.
 unfoldable pub call : Call → Outcome → Outcome

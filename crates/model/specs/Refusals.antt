@@ -4,7 +4,7 @@
 use Prim.Native.Nat.{ℕ, zero, suc, _+_, _*_}
 use mathlib.Core.List.{List, [], _∷_, _++_}
 use mathlib.Core.Bool.{Bool, true, false, cond, not, _||_}
-use lib.Dec.{eqb, ltb, leb}
+use lib.Dec.{eqb, leb}
 use Rattle.model.specs.declared.Plan.{Plan}
 unfoldable pub use Rattle.model.specs.Plans.{badCount, badWidths}
 use Rattle.model.specs.Plans.{width}

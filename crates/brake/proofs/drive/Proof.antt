@@ -1,6 +1,6 @@
 -- `brake::drive` meets its contract: refused, or the look-up by the table's computed test.
 use native.Mathlib.Omega.{arith}
-use mathlib.Core.Path.{refl, sym, _∙_}
+use mathlib.Core.Path.{sym, _∙_}
 use borrow.Author.Needs.{needs}
 use Rattle.brake.proofs.Accepted.{in-range}
 use Rattle.brake.proofs.Table.{look-up}

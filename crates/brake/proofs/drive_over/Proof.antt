@@ -1,7 +1,7 @@
 -- `brake::drive_over` meets its contract: 11 first, then the drive's own refusals, then the look-up.
 use native.Mathlib.Omega.{arith}
 use denote.Ref.{now}
-use mathlib.Core.Path.{refl, sym, ap, _∙_}
+use mathlib.Core.Path.{sym, _∙_}
 use borrow.Author.Needs.{needs}
 use Rattle.brake.proofs.Accepted.{in-range}
 use Rattle.brake.proofs.Over.{wrong-table, over-number, over-refused, over-entry}
