@@ -1,6 +1,6 @@
 -- What holds of ledger, device and image between two calls of a list from a formatted device.
 use Prim.Native.Nat.{ℕ, suc, _+_, _≤_, _<_}
-use mathlib.Core.Path.{_≡_, refl, _∙_}
+use mathlib.Core.Path.{_≡_, refl, ap, _∙_}
 use mathlib.Core.List.{List}
 use mathlib.Core.Option.{some}
 use mathlib.Core.Bool.{Bool, true, false, cond}
@@ -9,19 +9,19 @@ use lib.ListN.{length, getD, drop}
 use Rattle.model.specs.declared.Plan.{Plan}
 use Rattle.model.specs.declared.Direction.{Direction}
 use Rattle.model.specs.declared.Direction.the-variants.{AToB, BToA}
-use Rattle.model.specs.declared.Phase.{Phase}
-use Rattle.model.specs.declared.Phase.the-variants.{Cold, Ready, Writing, Recovering}
 use Rattle.model.specs.Marker.{OK, A, B, direction, completed}
 use Rattle.model.specs.Layout.{Copy, copyA, copyB, Cell, marker, byte, width, total, get}
-use Rattle.model.specs.Refusals.{Job}
+use Rattle.model.specs.Refusals.{Job, badJob, writeTotal}
 use Rattle.model.specs.Refusals as refusals
 use Rattle.model.specs.Stores.{store, source, target, stored}
 use Rattle.model.specs.Ledger.{Ledger, saving}
-use Rattle.model.specs.Calls.{Outcome, jobOf}
+use Rattle.model.specs.Calls.{Outcome}
 use Rattle.model.proofs.Compare.{equal, differ, same}
-use Rattle.model.proofs.RefusalLaws.{PlanOk}
+use Rattle.model.proofs.RefusalLaws.{PlanOk, job-writing}
 use Rattle.model.proofs.LayoutLaws.{bytes-apart, Elsewhere, Near, get-put-same, get-put-cell}
 use Rattle.model.proofs.LedgerLaws.{saving-same, saving-other}
+use Rattle.model.proofs.Tasks.{Write, write, Task, alone, jobAt, taskWrite, follows}
+pub use Rattle.model.proofs.Tasks.{phased, job-phased}
 
 -- the first n bytes of copy c of unit u are those of f
 abbrev pub Has : Plan → List ℕ → ℕ → Copy → List ℕ → ℕ → Type 0
@@ -52,42 +52,60 @@ pub data Safe (p : Plan) (image : List ℕ) (u m : ℕ) (f : List ℕ) : Type 0 
   twice : Both p image u f → Safe p image u m f
   once : ¬ (m ≡ OK) → Whole p image u (source (direction m)) f → Safe p image u m f
 
--- the device holds the payload that the ledger noted
-pub record Loaded (p : Plan) (noted held : List ℕ) (u : ℕ) : Type 0 where
-  pub size : length noted ≡ width p u
-  pub bytes : (i : ℕ) → i < width p u → getD held i 0 ≡ getD noted i 0
+-- by the payload that the ledger noted the task is to write bs to unit u, and by the device's it does
+pub record Loaded (p : Plan) (noted held : List ℕ) (t : Task) (u : ℕ) (bs : List ℕ) : Type 0 where
+  pub unit : u < p .count
+  pub size : length bs ≡ width p u
+  pub says : taskWrite p noted t ≡ write u bs
+  pub same : taskWrite p held t .unit ≡ u
+  pub bytes : (i : ℕ) → i < width p u → getD (taskWrite p held t .bytes) i 0 ≡ getD bs i 0
+
+-- where a write, a cleanup or a wake ends: Ready, or the start of a write
+pub data Starts (p : Plan) (noted held : List ℕ) (j : Job) : Type 0 where
+  idle : j ≡ refusals.ready → Starts p noted held j
+  starts : (t : Task) (u : ℕ) (bs : List ℕ) → j ≡ jobAt t 0 → Loaded p noted held t u bs → Starts p noted held j
 
 -- how far the unit last written is; held is the device's payload
 pub data Stage (p : Plan) (image : List ℕ) (l : Ledger) (held : List ℕ) : Type 0 where
   resting : l .job ≡ refusals.ready → l .marker ≡ OK → Both p image (l .unit) (l .saved (l .unit)) → Stage p image l held
   off : l .job ≡ refusals.cold → Safe p image (l .unit) (l .marker) (l .saved (l .unit)) → Stage p image l held
   -- a write of unit u has begun, and made no store
-  opened : (u : ℕ) → u < p .count → l .job ≡ refusals.writing u 0 → l .marker ≡ OK
-      → Both p image (l .unit) (l .saved (l .unit)) → Loaded p (l .payload) held u → Stage p image l held
+  opened : (t : Task) (u : ℕ) (bs : List ℕ) → l .job ≡ jobAt t 0 → l .marker ≡ OK
+      → Both p image (l .unit) (l .saved (l .unit)) → Loaded p (l .payload) held t u bs → Stage p image l held
   -- j bytes of copy A are written, then of copy B
-  toA : (j : ℕ) → j ≤ width p (l .unit) → l .job ≡ refusals.writing (l .unit) (suc j) → l .marker ≡ A
-      → Whole p image (l .unit) copyB (l .saved (l .unit)) → Has p image (l .unit) copyA (l .payload) j
-      → Loaded p (l .payload) held (l .unit) → Stage p image l held
-  toB : (j : ℕ) → j ≤ width p (l .unit) → l .job ≡ refusals.writing (l .unit) (suc (width p (l .unit) + suc j)) → l .marker ≡ B
-      → l .saved (l .unit) ≡ l .payload → Whole p image (l .unit) copyA (l .payload) → Has p image (l .unit) copyB (l .payload) j
-      → Loaded p (l .payload) held (l .unit) → Stage p image l held
+  toA : (t : Task) (bs : List ℕ) (j : ℕ) → j ≤ width p (l .unit) → l .job ≡ jobAt t (suc j) → l .marker ≡ A
+      → Whole p image (l .unit) copyB (l .saved (l .unit)) → Has p image (l .unit) copyA bs j
+      → Loaded p (l .payload) held t (l .unit) bs → Stage p image l held
+  toB : (t : Task) (bs : List ℕ) (j : ℕ) → j ≤ width p (l .unit) → l .job ≡ jobAt t (suc (width p (l .unit) + suc j)) → l .marker ≡ B
+      → l .saved (l .unit) ≡ bs → Whole p image (l .unit) copyA bs → Has p image (l .unit) copyB bs j
+      → Loaded p (l .payload) held t (l .unit) bs → Stage p image l held
   -- j bytes are copied from the good copy
   mending : (j : ℕ) → j ≤ width p (l .unit) → l .job ≡ refusals.recovering (l .unit) j → ¬ (l .marker ≡ OK)
       → Whole p image (l .unit) (source (direction (l .marker))) (l .saved (l .unit))
       → Has p image (l .unit) (target (direction (l .marker))) (l .saved (l .unit)) j → Stage p image l held
 
--- a job as a phase, with the direction that a cleanup has
-abbrev pub phased : Direction → Job → Phase
-phased d refusals.cold = Cold
-phased d refusals.ready = Ready
-phased d (refusals.writing u made) = Writing u made
-phased d (refusals.recovering u made) = Recovering u made d
+-- at rest, or at the start of a write
+pub still : {p : Plan} {image : List ℕ} {l : Ledger} {held : List ℕ} → Starts p (l .payload) held (l .job) → l .marker ≡ OK
+    → Both p image (l .unit) (l .saved (l .unit)) → Stage p image l held
+still (idle e) mk both = resting e mk both
+still (starts t u bs e ld) mk both = opened t u bs e mk both ld
 
-pub job-phased : (d : Direction) (j : Job) → jobOf (phased d j) ≡ j
-job-phased d refusals.cold = refl
-job-phased d refusals.ready = refl
-job-phased d (refusals.writing u made) = refl
-job-phased d (refusals.recovering u made) = refl
+-- 4 does not refuse such a write
+pub loaded-fine : {p : Plan} {noted held : List ℕ} (t : Task) {u : ℕ} {bs : List ℕ} → Loaded p noted held t u bs
+    → (n : ℕ) → n < writeTotal (width p u) → badJob p (jobAt t n) ≡ false
+loaded-fine {p} {noted} {held} (alone v) {u} {bs} ld n h =
+    let e : v ≡ u = ap (λ (x : Write). x .unit) (ld .says) in
+    rw e (job-writing p u n (ld .unit) h)
+
+-- both go on alike
+pub loaded-follows : {p : Plan} {noted held : List ℕ} (t : Task) {u : ℕ} {bs : List ℕ} → Loaded p noted held t u bs
+    → follows p held t ≡ follows p noted t
+loaded-follows (alone v) ld = refl
+
+-- where a write ends
+pub follows-starts : (p : Plan) → PlanOk p → {noted held : List ℕ} (t : Task) {u : ℕ} {bs : List ℕ} → Loaded p noted held t u bs
+    → Starts p noted held (follows p noted t)
+follows-starts p ok (alone v) ld = idle refl
 
 -- THE INVARIANT, of the ledger and what the last call left; before is the image before format
 pub record Inv (p : Plan) (before : List ℕ) (l : Ledger) (o : Outcome) : Type 0 where

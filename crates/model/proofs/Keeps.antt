@@ -12,10 +12,10 @@ use Rattle.model.specs.declared.Plan.{Plan}
 use Rattle.model.specs.declared.Direction.{Direction}
 use Rattle.model.specs.declared.Direction.the-variants.{AToB}
 use Rattle.model.specs.declared.Phase.{Phase}
-use Rattle.model.specs.declared.Phase.the-variants.{Ready, Writing, Recovering}
+use Rattle.model.specs.declared.Phase.the-variants.{Writing, Recovering}
 use Rattle.model.specs.Marker.{OK, A, B, direction, End, completed, tornBy, markerLeft}
 use Rattle.model.specs.Layout.{copyA, copyB, marker, byte, width, total, get}
-use Rattle.model.specs.Refusals.{Job, isCold, isReady, stepNumber}
+use Rattle.model.specs.Refusals.{Job, isCold, isReady, writeTotal, stepNumber}
 use Rattle.model.specs.Refusals as refusals
 use Rattle.model.specs.Stores.{Store, store, source, target, stored}
 use Rattle.model.specs.Calls.{Device, Outcome, outcome, padded, asBegun, asStepped, asWoken, asCut, view, jobOf, next, imageAfter, phaseAfter, cleanupFrom}
@@ -27,9 +27,10 @@ use Rattle.model.proofs.Compare.{below, above, order, Same, equal, diff
 use Rattle.model.proofs.RefusalLaws.{PlanOk, Alike, step-alike, cut-alike, wake-alike, begin-alike, step-cold, step-ready, wake-says, begin-says, Began}
 use Rattle.model.proofs.LayoutLaws.{Near, stored-near, stored-marker}
 use Rattle.model.proofs.MarkerLaws.{torn-A-to-B, direction-A, direction-other}
-use Rattle.model.proofs.StoreLaws.{next-A, next-to-A, next-B, next-to-B, next-OK, next-copy, next-settle, write-goes-on, write-ends, cleanup-goes-on, cleanup-ends, none-found, lowest-found}
+use Rattle.model.proofs.StoreLaws.{next-A, next-to-A, next-B, next-to-B, next-OK, next-copy, next-settle, next-task, task-goes-on, task-ends, cleanup-goes-on, cleanup-ends, none-found, lowest-found}
 use Rattle.model.proofs.LedgerLaws.{at, noted, then, decides, own-marker, saving-same, notes-A, notes-byte, notes-B, notes-OK, notes-copy, notes-settle}
-use Rattle.model.proofs.Invariant.{Has, Whole, Both, Clean, Frame, Safe, twice, once, Loaded, Stage, resting, off, opened, toA, toB, mending, phased, job-phased, Inv, source-off-target, both-of, whole-near, frame-near, has-more, all-clean, frame-to, frame-saving}
+use Rattle.model.proofs.Tasks.{write, Task, alone, jobAt, phaseAt, taskWrite, follows, phased-task}
+use Rattle.model.proofs.Invariant.{Has, Whole, Both, Clean, Frame, Safe, twice, once, Loaded, Starts, idle, still, loaded-follows, follows-starts, Stage, resting, off, opened, toA, toB, mending, phased, job-phased, Inv, source-off-target, both-of, whole-near, frame-near, has-more, all-clean, frame-to, frame-saving}
 
 module _ (p : Plan) (ok : PlanOk p) (before : List ℕ) (l : Ledger) (o : Outcome) (inv : Inv p before l o) where
   abbrev d : Device
@@ -72,7 +73,7 @@ module _ (p : Plan) (ok : PlanOk p) (before : List ℕ) (l : Ledger) (o : Outcom
   -- after it: the ledger is at job j, or Cold, with unit v last written, its marker mk and the saved bytes sv
   module _ (s : Store) (phase : Phase) (v : ℕ) (j : Job) (mk : End → ℕ) (sv : End → ℕ → List ℕ)
       (is : d .phase ≡ phase) (comes : next p (d .payload) image phase ≡ some s)
-      (notes : (e : End) → noted p l e ≡ at l (then e j) v (mk e) (sv e)) where
+      (notes : (e : End) → noted p l e ≡ at (then e j) (l .payload) v (mk e) (sv e)) where
     image-is : (e : End) → imageAfter e d image ≡ stored p image e (some s)
     unfolding imageAfter
     image-is e = rw (inv .plan, is, comes)
@@ -87,7 +88,7 @@ module _ (p : Plan) (ok : PlanOk p) (before : List ℕ) (l : Ledger) (o : Outcom
     by-store : phaseAfter p (stored p image completed (some s)) phase ≡ phased (direction (mk completed)) j
         → ((e : End) → Frame p before (stored p image e (some s)) (sv e) v)
         → ((e : End) → get p (stored p image e (some s)) v marker ≡ mk e)
-        → Stage p (stored p image completed (some s)) (at l j v (mk completed) (sv completed)) (d .payload)
+        → Stage p (stored p image completed (some s)) (at j (l .payload) v (mk completed) (sv completed)) (d .payload)
         → ((e : End) → Safe p (stored p image e (some s)) v (mk e) (sv e v))
         → (e : End) → Kept e
     by-store goes fr mark stage safe completed =
@@ -108,8 +109,36 @@ module _ (p : Plan) (ok : PlanOk p) (before : List ℕ) (l : Ledger) (o : Outcom
 
   -- a store of unit u: its own marker is the ledger's
   own : {x : Ledger} (j : Job) (mk : ℕ → ℕ) (sv : ℕ → ℕ → List ℕ)
-      → x ≡ at l j u (mk (markerOf l u)) (sv (markerOf l u)) → x ≡ at l j u (mk (l .marker)) (sv (l .marker))
-  own j mk sv e = e ∙ ap (λ (m : ℕ). at l j u (mk m) (sv m)) (own-marker l)
+      → x ≡ at j (l .payload) u (mk (markerOf l u)) (sv (markerOf l u)) → x ≡ at j (l .payload) u (mk (l .marker)) (sv (l .marker))
+  own j mk sv e = e ∙ ap (λ (m : ℕ). at j (l .payload) u (mk m) (sv m)) (own-marker l)
+
+  -- a store that leaves marker and saved bytes be
+  same-own : {x : Ledger} (j : Job) → x ≡ at j (l .payload) u (markerOf l u) (l .saved) → x ≡ at j (l .payload) u (l .marker) (l .saved)
+  same-own j e = own j (λ m. m) (λ m. l .saved) e
+
+  -- ---- a write, by its task
+  module _ (t : Task) (v : ℕ) (bs : List ℕ) (loaded : Loaded p (l .payload) (d .payload) t v bs) where
+    task-is : (n : ℕ) → l .job ≡ jobAt t n → d .phase ≡ phaseAt t n
+    task-is n e = phase-is (jobAt t n) e ∙ phased-task (direction (l .marker)) t n
+
+    -- its next store is that of a write of unit v
+    task-comes : (n : ℕ) (s : Store) → next p (taskWrite p (d .payload) t .bytes) image (Writing v n) ≡ some s
+        → next p (d .payload) image (phaseAt t n) ≡ some s
+    task-comes n s e =
+        next-task p (d .payload) image t n
+        ∙ ap (λ (y : ℕ). next p (taskWrite p (d .payload) t .bytes) image (Writing y n)) (loaded .same) ∙ e
+
+    task-more : (after : List ℕ) (n : ℕ) (way : Direction) → ¬ (suc n ≡ writeTotal (width p v))
+        → phaseAfter p after (phaseAt t n) ≡ phased way (jobAt t (suc n))
+    task-more after n way h =
+        task-goes-on p (d .payload) after t n (λ e. h (e ∙ ap (λ (y : ℕ). writeTotal (width p y)) (loaded .same)))
+        ∙ sym (phased-task way t (suc n))
+
+    task-over : (after : List ℕ) (n : ℕ) (way : Direction) → suc n ≡ writeTotal (width p v)
+        → phaseAfter p after (phaseAt t n) ≡ phased way (follows p (l .payload) t)
+    task-over after n way h =
+        task-ends p (d .payload) after t n way (h ∙ ap (λ (y : ℕ). writeTotal (width p y)) (sym (loaded .same)))
+        ∙ ap (phased way) (loaded-follows t loaded)
 
   -- the marker's store of unit u leaves what the ledger notes
   own-mark : (e : End) (code : ℕ)
@@ -118,42 +147,47 @@ module _ (p : Plan) (ok : PlanOk p) (before : List ℕ) (l : Ledger) (o : Outcom
       stored-marker p ok image e u code (frame .unit) (frame .long) ∙ ap (λ (m : ℕ). markerLeft e m code) (inv .mark)
 
   -- 1: marker A
-  store-A : (v : ℕ) → v < p .count → l .job ≡ refusals.writing v 0 → l .marker ≡ OK → Both p image u f
-      → Loaded p (l .payload) (d .payload) v → (e : End) → Kept e
-  store-A v hv job mk both loaded =
-      by-store (store v marker A) (Writing v 0) v (refusals.writing v 1) (λ e. markerLeft e (markerOf l v) A) (λ e. l .saved)
-      (phase-is _ job) (next-A p (d .payload) image v) (notes-A p l v 0 job refl)
-      (write-goes-on p _ v 0 (omega arith))
+  store-A : (t : Task) (v : ℕ) (bs : List ℕ) → l .job ≡ jobAt t 0 → l .marker ≡ OK → Both p image u f
+      → Loaded p (l .payload) (d .payload) t v bs → (e : End) → Kept e
+  store-A t v bs job mk both loaded =
+      by-store (store v marker A) (phaseAt t 0) v (jobAt t 1) (λ e. markerLeft e (markerOf l v) A) (λ e. l .saved)
+      (task-is t v bs loaded 0 job) (task-comes t v bs loaded 0 _ (next-A p _ image v))
+      (notes-A p l t 0 (write v bs) job (loaded .says) refl)
+      (task-more t v bs loaded _ 0 _ (omega arith))
       (λ e. frame-near (near e) before (l .saved) (frame-to frame clean v hv))
       (λ e. stored-marker p ok image e v A hv (frame .long) ∙ ap (λ (m : ℕ). markerLeft e m A) (marker-agrees v hv))
-      (toA 0 (omega arith) refl refl (still completed copyB) (λ i q. absurd (omega arith)) loaded)
-      (λ e. twice (still e))
+      (toA t bs 0 (omega arith) refl refl (stays completed copyB) (λ i q. absurd (omega arith)) loaded)
+      (λ e. twice (stays e))
     where
+      hv : v < p .count
+      hv = loaded .unit
+
       clean : Clean p image (l .saved) u
       clean = record { mark = inv .mark ∙ mk; both = both }
 
       near : (e : End) → Near p image (stored p image e (some (store v marker A))) v marker
       near e = stored-near p ok image e v A hv marker tt
 
-      still : (e : End) → Both p (stored p image e (some (store v marker A))) v (l .saved v)
-      still e c = whole-near (near e) c (l .saved v) tt (all-clean frame clean v hv .both c)
+      stays : (e : End) → Both p (stored p image e (some (store v marker A))) v (l .saved v)
+      stays e c = whole-near (near e) c (l .saved v) tt (all-clean frame clean v hv .both c)
 
   -- 2: the bytes of copy A
-  store-to-A : (j : ℕ) → j < w → l .job ≡ refusals.writing u (suc j) → l .marker ≡ A → Whole p image u copyB f
-      → Has p image u copyA (l .payload) j → Loaded p (l .payload) (d .payload) u → (e : End) → Kept e
-  store-to-A j h job mk hb ha loaded =
-      by-store s (Writing u (suc j)) u (refusals.writing u (suc (suc j))) (λ e. l .marker) (λ e. l .saved)
-      (phase-is _ job) (next-to-A p (d .payload) image u j h)
-      (λ e. own _ (λ m. m) (λ m. l .saved) (notes-byte p l u (suc j) job (omega arith) (omega arith) (omega arith) e))
-      (write-goes-on p _ u (suc j) (omega arith))
+  store-to-A : (t : Task) (bs : List ℕ) (j : ℕ) → j < w → l .job ≡ jobAt t (suc j) → l .marker ≡ A → Whole p image u copyB f
+      → Has p image u copyA bs j → Loaded p (l .payload) (d .payload) t u bs → (e : End) → Kept e
+  store-to-A t bs j h job mk hb ha loaded =
+      by-store s (phaseAt t (suc j)) u (jobAt t (suc (suc j))) (λ e. l .marker) (λ e. l .saved)
+      (task-is t u bs loaded (suc j) job) (task-comes t u bs loaded (suc j) s (next-to-A p _ image u j h))
+      (λ e. same-own _
+      (notes-byte p l t (suc j) (write u bs) job (loaded .says) (omega arith) (omega arith) (omega arith) e))
+      (task-more t u bs loaded _ (suc j) _ (omega arith))
       (λ e. frame-near (near e) before (l .saved) frame)
       (λ e. near e .own marker tt tt ∙ inv .mark)
-      (toA (suc j) h refl mk (still completed)
-      (has-more p ok image u _ copyA (l .payload) j (frame .unit) (frame .long) h (loaded .bytes j h) ha) loaded)
+      (toA t bs (suc j) h refl mk (still completed)
+      (has-more p ok image u _ copyA bs j (frame .unit) (frame .long) h (loaded .bytes j h) ha) loaded)
       (λ e. once (omega arith) (rw (direction-A (l .marker) mk) (still e)))
     where
       s : Store
-      s = store u (byte copyA j) (getD (d .payload) j 0)
+      s = store u (byte copyA j) (getD (taskWrite p (d .payload) t .bytes) j 0)
 
       near : (e : End) → Near p image (stored p image e (some s)) u (byte copyA j)
       near e = stored-near p ok image e u _ (frame .unit) (byte copyA j) h
@@ -162,16 +196,17 @@ module _ (p : Plan) (ok : PlanOk p) (before : List ℕ) (l : Ledger) (o : Outcom
       still e = whole-near (near e) copyB f tt hb
 
   -- 3: marker B, the store that decides: the write passes unless it leaves A
-  store-B : l .job ≡ refusals.writing u (suc w) → l .marker ≡ A → Whole p image u copyB f → Whole p image u copyA (l .payload)
-      → Loaded p (l .payload) (d .payload) u → (e : End) → Kept e
-  store-B job mk hb ha loaded =
-      by-store (store u marker B) (Writing u (suc w)) u (refusals.writing u (suc (suc w))) left (λ e. kept e (left e))
-      (phase-is _ job) (next-B p (d .payload) image u)
-      (λ e. own _ (λ m. markerLeft e m B) (λ m. kept e (markerLeft e m B)) (notes-B p l u (suc w) job (omega arith) e))
-      (write-goes-on p _ u (suc w) (omega arith))
-      (λ e. frame-near (near e) before (kept e (left e)) (frame-saving frame (decides e (left e)) (l .payload) (loaded .size)))
+  store-B : (t : Task) (bs : List ℕ) → l .job ≡ jobAt t (suc w) → l .marker ≡ A → Whole p image u copyB f → Whole p image u copyA bs
+      → Loaded p (l .payload) (d .payload) t u bs → (e : End) → Kept e
+  store-B t bs job mk hb ha loaded =
+      by-store (store u marker B) (phaseAt t (suc w)) u (jobAt t (suc (suc w))) left (λ e. kept e (left e))
+      (task-is t u bs loaded (suc w) job) (task-comes t u bs loaded (suc w) _ (next-B p _ image u))
+      (λ e. own _ (λ m. markerLeft e m B) (λ m. kept e (markerLeft e m B))
+      (notes-B p l t (suc w) (write u bs) job (loaded .says) (omega arith) e))
+      (task-more t u bs loaded _ (suc w) _ (omega arith))
+      (λ e. frame-near (near e) before (kept e (left e)) (frame-saving frame (decides e (left e)) bs (loaded .size)))
       (λ e. own-mark e B)
-      (toB 0 (omega arith) (ap (refusals.writing u) (omega arith)) refl (saving-same u (l .payload) (l .saved))
+      (toB t bs 0 (omega arith) (ap (jobAt t) (omega arith)) refl (saving-same u bs (l .saved))
       (new completed) (λ i q. absurd (omega arith)) loaded)
       decided
     where
@@ -179,7 +214,7 @@ module _ (p : Plan) (ok : PlanOk p) (before : List ℕ) (l : Ledger) (o : Outcom
       left e = markerLeft e (l .marker) B
 
       kept : End → ℕ → ℕ → List ℕ
-      kept e x = cond (decides e x) (saving u (l .payload) (l .saved)) (l .saved)
+      kept e x = cond (decides e x) (saving u bs (l .saved)) (l .saved)
 
       near : (e : End) → Near p image (stored p image e (some (store u marker B))) u marker
       near e = stored-near p ok image e u B (frame .unit) marker tt
@@ -187,15 +222,15 @@ module _ (p : Plan) (ok : PlanOk p) (before : List ℕ) (l : Ledger) (o : Outcom
       old : (e : End) → Whole p (stored p image e (some (store u marker B))) u copyB f
       old e = whole-near (near e) copyB f tt hb
 
-      new : (e : End) → Whole p (stored p image e (some (store u marker B))) u copyA (l .payload)
-      new e = whole-near (near e) copyA (l .payload) tt ha
+      new : (e : End) → Whole p (stored p image e (some (store u marker B))) u copyA bs
+      new e = whole-near (near e) copyA bs tt ha
 
       After : End → Type 0
       After e = Safe p (stored p image e (some (store u marker B))) u (left e) (kept e (left e) u)
 
       passed : (e : End) → ¬ (left e ≡ OK) → ¬ (left e ≡ A) → decides e (left e) ≡ true → After e
-      passed e h q t =
-          rw (t, saving-same u (l .payload) (l .saved)) (once h (rw (direction-other (left e) q) (new e)))
+      passed e h q z =
+          rw (z, saving-same u bs (l .saved)) (once h (rw (direction-other (left e) q) (new e)))
 
       tore : (m : ℕ) → ¬ (left (tornBy m) ≡ OK) → Same (left (tornBy m)) A → After (tornBy m)
       tore m h (equal q) =
@@ -207,54 +242,59 @@ module _ (p : Plan) (ok : PlanOk p) (before : List ℕ) (l : Ledger) (o : Outcom
       decided (tornBy m) = tore m (rw mk (torn-A-to-B m)) (same (left (tornBy m)) A)
 
   -- 4: the bytes of copy B
-  store-to-B : (j : ℕ) → j < w → l .job ≡ refusals.writing u (suc (w + suc j)) → l .marker ≡ B → f ≡ l .payload
-      → Whole p image u copyA (l .payload) → Has p image u copyB (l .payload) j → Loaded p (l .payload) (d .payload) u
+  store-to-B : (t : Task) (bs : List ℕ) (j : ℕ) → j < w → l .job ≡ jobAt t (suc (w + suc j)) → l .marker ≡ B → f ≡ bs
+      → Whole p image u copyA bs → Has p image u copyB bs j → Loaded p (l .payload) (d .payload) t u bs
       → (e : End) → Kept e
-  store-to-B j h job mk sv ha hb loaded =
-      by-store s (Writing u made) u (refusals.writing u (suc made)) (λ e. l .marker) (λ e. l .saved)
-      (phase-is _ job) (next-to-B p (d .payload) image u j h)
-      (λ e. own _ (λ m. m) (λ m. l .saved) (notes-byte p l u made job (omega arith) (omega arith) (omega arith) e))
-      (write-goes-on p _ u made (omega arith))
+  store-to-B t bs j h job mk sv ha hb loaded =
+      by-store s (phaseAt t made) u (jobAt t (suc made)) (λ e. l .marker) (λ e. l .saved)
+      (task-is t u bs loaded made job) (task-comes t u bs loaded made s (next-to-B p _ image u j h))
+      (λ e. same-own _
+      (notes-byte p l t made (write u bs) job (loaded .says) (omega arith) (omega arith) (omega arith) e))
+      (task-more t u bs loaded _ made _ (omega arith))
       (λ e. frame-near (near e) before (l .saved) frame)
       (λ e. near e .own marker tt tt ∙ inv .mark)
-      (toB (suc j) h (ap (refusals.writing u) (omega arith)) mk sv (still completed)
-      (has-more p ok image u _ copyB (l .payload) j (frame .unit) (frame .long) h (loaded .bytes j h) hb) loaded)
+      (toB t bs (suc j) h (ap (jobAt t) (omega arith)) mk sv (still completed)
+      (has-more p ok image u _ copyB bs j (frame .unit) (frame .long) h (loaded .bytes j h) hb) loaded)
       (λ e. once (omega arith) (rw (direction-other (l .marker) (omega arith), sv) (still e)))
     where
       made : ℕ
       made = suc (w + suc j)
 
       s : Store
-      s = store u (byte copyB j) (getD (d .payload) j 0)
+      s = store u (byte copyB j) (getD (taskWrite p (d .payload) t .bytes) j 0)
 
       near : (e : End) → Near p image (stored p image e (some s)) u (byte copyB j)
       near e = stored-near p ok image e u _ (frame .unit) (byte copyB j) h
 
-      still : (e : End) → Whole p (stored p image e (some s)) u copyA (l .payload)
-      still e = whole-near (near e) copyA (l .payload) tt ha
+      still : (e : End) → Whole p (stored p image e (some s)) u copyA bs
+      still e = whole-near (near e) copyA bs tt ha
 
   -- both copies stay whole under a store of the marker
   both-stay : (e : End) (code : ℕ) → Both p image u f → Both p (stored p image e (some (store u marker code))) u f
   both-stay e code h c = whole-near (stored-near p ok image e u code (frame .unit) marker tt) c f tt (h c)
 
   -- 5, and 7 below: marker OK, with both copies whole
-  store-OK : (phase : Phase) → d .phase ≡ phase → next p (d .payload) image phase ≡ some (store u marker OK)
-      → ((e : End) → noted p l e ≡ at l (then e refusals.ready) u (markerLeft e (markerOf l u) OK) (l .saved))
-      → phaseAfter p (stored p image completed (some (store u marker OK))) phase ≡ Ready
+  store-OK : (phase : Phase) (j : Job) → d .phase ≡ phase → next p (d .payload) image phase ≡ some (store u marker OK)
+      → ((e : End) → noted p l e ≡ at (then e j) (l .payload) u (markerLeft e (markerOf l u) OK) (l .saved))
+      → phaseAfter p (stored p image completed (some (store u marker OK))) phase ≡ phased (direction OK) j
+      → Starts p (l .payload) (d .payload) j
       → Both p image u f → (e : End) → Kept e
-  store-OK phase is comes notes goes both =
-      by-store (store u marker OK) phase u refusals.ready (λ e. markerLeft e (l .marker) OK) (λ e. l .saved)
+  store-OK phase j is comes notes goes starting both =
+      by-store (store u marker OK) phase u j (λ e. markerLeft e (l .marker) OK) (λ e. l .saved)
       is comes (λ e. own _ (λ m. markerLeft e m OK) (λ m. l .saved) (notes e)) goes
       (λ e. frame-near (stored-near p ok image e u OK (frame .unit) marker tt) before (l .saved) frame)
       (λ e. own-mark e OK)
-      (resting refl refl (both-stay completed OK both))
+      (still starting refl (both-stay completed OK both))
       (λ e. twice (both-stay e OK both))
 
-  write-done : l .job ≡ refusals.writing u (suc (w + suc w)) → f ≡ l .payload → Whole p image u copyA (l .payload)
-      → Whole p image u copyB (l .payload) → (e : End) → Kept e
-  write-done job sv ha hb =
-      store-OK (Writing u made) (phase-is _ job) (next-OK p (d .payload) image u) (notes-OK p l u made job (omega arith))
-      (write-ends p _ u made (omega arith)) (rw sv (both-of AToB (λ c. Whole p image u c (l .payload)) ha hb))
+  write-done : (t : Task) (bs : List ℕ) → l .job ≡ jobAt t (suc (w + suc w)) → f ≡ bs → Whole p image u copyA bs
+      → Whole p image u copyB bs → Loaded p (l .payload) (d .payload) t u bs → (e : End) → Kept e
+  write-done t bs job sv ha hb loaded =
+      store-OK (phaseAt t made) (follows p (l .payload) t)
+      (task-is t u bs loaded made job) (task-comes t u bs loaded made _ (next-OK p _ image u))
+      (notes-OK p l t made (write u bs) job (loaded .says) (omega arith))
+      (task-over t u bs loaded _ made _ (omega arith)) (follows-starts p ok t loaded)
+      (rw sv (both-of AToB (λ c. Whole p image u c bs) ha hb))
     where
       made : ℕ
       made = suc (w + suc w)
@@ -269,7 +309,7 @@ module _ (p : Plan) (ok : PlanOk p) (before : List ℕ) (l : Ledger) (o : Outcom
   store-copy j h job mk hs ht =
       by-store s (Recovering u j way) u (refusals.recovering u (suc j)) (λ e. l .marker) (λ e. l .saved)
       (phase-is _ job) (next-copy p (d .payload) image u way j h)
-      (λ e. own _ (λ m. m) (λ m. l .saved) (notes-copy p l u j job h e))
+      (λ e. same-own _ (notes-copy p l u j job h e))
       (cleanup-goes-on p _ u j way (omega arith))
       (λ e. frame-near (near e) before (l .saved) frame)
       (λ e. near e .own marker tt tt ∙ inv .mark)
@@ -290,11 +330,13 @@ module _ (p : Plan) (ok : PlanOk p) (before : List ℕ) (l : Ledger) (o : Outcom
   cleanup-done : l .job ≡ refusals.recovering u w → Whole p image u (source way) f → Whole p image u (target way) f
       → (e : End) → Kept e
   cleanup-done job hs ht =
-      store-OK (Recovering u w way) (phase-is _ job) (next-settle p (d .payload) image u way) (notes-settle p l u w job refl)
+      store-OK (Recovering u w way) refusals.ready (phase-is _ job) (next-settle p (d .payload) image u way)
+      (notes-settle p l u w job refl)
       (cleanup-ends p _ u w way (omega arith)
       ∙ none-found p _ (p .count - suc u) (suc u)
       (λ v i q.
       near .others v marker (omega arith) tt ∙ frame .others v (omega (arith, frame .unit)) (omega arith) .mark))
+      (idle refl)
       (both-of way (λ c. Whole p image u c f) hs ht)
     where
       near : Near p image (stored p image completed (some (store u marker OK))) u marker
@@ -306,20 +348,20 @@ module _ (p : Plan) (ok : PlanOk p) (before : List ℕ) (l : Ledger) (o : Outcom
     by-stage : Stage p image l (d .payload) → Kept e
     by-stage (resting job mk both) = in-ready job mk both
     by-stage (off job safe) = in-cold job safe
-    by-stage (opened v hv job mk both loaded) = store-A v hv job mk both loaded e
-    by-stage (toA j hj job mk hb ha loaded) =
+    by-stage (opened t v bs job mk both loaded) = store-A t v bs job mk both loaded e
+    by-stage (toA t bs j hj job mk hb ha loaded) =
         elim (order j w) [
-          | below h ↦ store-to-A j h job mk hb ha loaded e
+          | below h ↦ store-to-A t bs j h job mk hb ha loaded e
           | above h ↦
               let q : j ≡ w = omega arith in
-              store-B (job ∙ ap (λ (n : ℕ). refusals.writing u (suc n)) q) mk hb (rw q at ha) loaded e
+              store-B t bs (job ∙ ap (λ (n : ℕ). jobAt t (suc n)) q) mk hb (rw q at ha) loaded e
         ]
-    by-stage (toB j hj job mk sv ha hb loaded) =
+    by-stage (toB t bs j hj job mk sv ha hb loaded) =
         elim (order j w) [
-          | below h ↦ store-to-B j h job mk sv ha hb loaded e
+          | below h ↦ store-to-B t bs j h job mk sv ha hb loaded e
           | above h ↦
               let q : j ≡ w = omega arith in
-              write-done (job ∙ ap (λ (n : ℕ). refusals.writing u (suc (w + suc n))) q) sv ha (rw q at hb) e
+              write-done t bs (job ∙ ap (λ (n : ℕ). jobAt t (suc (w + suc n))) q) sv ha (rw q at hb) loaded e
         ]
     by-stage (mending j hj job mk hs ht) =
         elim (order j w) [
@@ -378,7 +420,7 @@ module _ (p : Plan) (ok : PlanOk p) (before : List ℕ) (l : Ledger) (o : Outcom
       (none-found p image (p .count - 0) 0
       (λ v i h.
       elim (same v u) [ equal t ↦ rw t (inv .mark ∙ q) | differ t ↦ frame .others v (omega arith) t .mark ]))
-      (resting refl q (whole safe))
+      (still (idle refl) q (whole safe))
     where
       whole : Safe p image u (l .marker) f → Both p image u f
       whole (twice h) = h
@@ -398,45 +440,54 @@ module _ (p : Plan) (ok : PlanOk p) (before : List ℕ) (l : Ledger) (o : Outcom
   other-job : {X : Type 0} (test : Job → Bool) (j k : Job) → l .job ≡ j → l .job ≡ k → test j ≡ true → test k ≡ false → X
   other-job test j k e f t s = absurd (true≢false (sym t ∙ ap test (sym e ∙ f) ∙ s))
 
+  busy : (t : Task) (n : ℕ) → (isCold (jobAt t n) ≡ false) × (isReady (jobAt t n) ≡ false)
+  busy (alone v) n = (refl, refl)
+
   wake-kept : l .job ≡ refusals.cold → Woken
   wake-kept e = go (inv .stage)
     where
       go : Stage p image l (d .payload) → Woken
       go (resting job mk both) = other-job isCold _ _ e job refl refl
       go (off job safe) = wake-off safe (same (l .marker) OK)
-      go (opened v hv job mk both loaded) = other-job isCold _ _ e job refl refl
-      go (toA j hj job mk hb ha loaded) = other-job isCold _ _ e job refl refl
-      go (toB j hj job mk sv ha hb loaded) = other-job isCold _ _ e job refl refl
+      go (opened t v bs job mk both loaded) = other-job isCold _ _ e job refl (busy t 0 .0)
+      go (toA t bs j hj job mk hb ha loaded) = other-job isCold _ _ e job refl (busy t _ .0)
+      go (toB t bs j hj job mk sv ha hb loaded) = other-job isCold _ _ e job refl (busy t _ .0)
       go (mending j hj job mk hs ht) = other-job isCold _ _ e job refl refl
 
   -- ---- begin
+  -- in Ready unit u is whole
+  at-rest : l .job ≡ refusals.ready → (l .marker ≡ OK) × Both p image u f
+  at-rest r = go (inv .stage)
+    where
+      go : Stage p image l (d .payload) → (l .marker ≡ OK) × Both p image u f
+      go (resting job mk both) = (mk, both)
+      go (off job safe) = other-job isReady _ _ r job refl refl
+      go (opened t v bs job mk both ld) = other-job isReady _ _ r job refl (busy t 0 .1)
+      go (toA t bs j hj job mk hb ha ld) = other-job isReady _ _ r job refl (busy t _ .1)
+      go (toB t bs j hj job mk sv ha hb ld) = other-job isReady _ _ r job refl (busy t _ .1)
+      go (mending j hj job mk hs ht) = other-job isReady _ _ r job refl refl
+
   begin-kept : (v : ℕ) (payload : List ℕ) → Began (judged p l) v (length payload)
       → Inv p before (accepted p l (begin v payload)) (outcome 0 (asBegun v (padded payload) d) image)
   unfolding accepted
-  begin-kept v payload began = go (inv .stage)
+  begin-kept v payload began =
+      record {
+        plan = inv .plan;
+        phase = refl;
+        frame = frame;
+        mark = inv .mark;
+        stage = opened (alone v) v payload refl (at-rest (began .job) .0) (at-rest (began .job) .1) loaded;
+      }
     where
-      loaded : Loaded p payload (padded payload) v
+      loaded : Loaded p payload (padded payload) (alone v) v payload
       loaded =
           record {
+            unit = began .unit;
             size = began .size;
+            says = refl;
+            same = refl;
             bytes = λ i h. List·getD-append payload (replicate (256 - length payload) 0) 0 i (omega (arith, began .size));
           }
-
-      go : Stage p image l (d .payload)
-          → Inv p before (accepted p l (begin v payload)) (outcome 0 (asBegun v (padded payload) d) image)
-      go (resting job mk both) =
-          record {
-            plan = inv .plan;
-            phase = refl;
-            frame = frame;
-            mark = inv .mark;
-            stage = opened v (began .unit) refl mk both loaded;
-          }
-      go (off job safe) = other-job isReady _ _ (began .job) job refl refl
-      go (opened t ht job mk both ld) = other-job isReady _ _ (began .job) job refl refl
-      go (toA j hj job mk hb ha ld) = other-job isReady _ _ (began .job) job refl refl
-      go (toB j hj job mk sv ha hb ld) = other-job isReady _ _ (began .job) job refl refl
-      go (mending j hj job mk hs ht) = other-job isReady _ _ (began .job) job refl refl
 
   -- ---- the answers: device and ledger are judged alike
   alike : Alike (view d image) (judged p l)

@@ -10,12 +10,13 @@ use Rattle.model.specs.declared.Plan.{Plan}
 use Rattle.model.specs.Marker.{OK, A, B, End, completed, tornBy, markerLeft}
 use Rattle.model.specs.Layout.{width}
 use Rattle.model.specs.Refusals.{Job, cold, ready, writing, recovering, anyForeign}
-use Rattle.model.specs.Ledger.{Ledger, Call, begin, step, cut, wake, opening, markerOf, told, writeMarker, cleanupMarker, passes, saving, wrote, stepped, wasCut, accepted, unlessRefused, fed, after}
+use Rattle.model.specs.Ledger.{Ledger, Call, begin, step, cut, wake, opening, markerOf, told, writeMarker, cleanupMarker, passes, saving, stepped, wasCut, accepted, unlessRefused, fed, after}
 use Rattle.model.proofs.MarkerLaws.{not-foreign, torn-small}
+use Rattle.model.proofs.Tasks.{Write, Task, alone, jobAt, taskWrite, follows}
 
 -- the ledger at job j with unit u last written, its marker m
-abbrev pub at : Ledger → Job → ℕ → ℕ → (ℕ → List ℕ) → Ledger
-at l j u m saved = record { job = j; payload = l .payload; unit = u; marker = m; saved = saved }
+abbrev pub at : Job → List ℕ → ℕ → ℕ → (ℕ → List ℕ) → Ledger
+at j payload u m saved = record { job = j; payload = payload; unit = u; marker = m; saved = saved }
 
 -- what the ledger notes of the next store, completed by a step or torn by a cut
 abbrev pub noted : Plan → Ledger → End → Ledger
@@ -53,32 +54,63 @@ pub saving-other : (u v : ℕ) (payload : List ℕ) (saved : ℕ → List ℕ) �
 unfolding saving
 saving-other u v payload saved h = rw (ne-eqb v u h, saving)
 
-module _ (p : Plan) (l : Ledger) (u made : ℕ) (is : l .job ≡ writing u made) where
+-- store n of the write x, after which the job is j
+abbrev wroteTo : Plan → Ledger → Write → ℕ → End → Job → Ledger
+wroteTo p l x n e j =
+    at j (l .payload) (x .unit) (writeMarker (width p (x .unit)) n e (markerOf l (x .unit)))
+    (cond (passes (width p (x .unit)) n e (writeMarker (width p (x .unit)) n e (markerOf l (x .unit))))
+    (saving (x .unit) (x .bytes) (l .saved))
+    (l .saved))
+
+-- the write x of the task t
+module _ (p : Plan) (l : Ledger) (t : Task) (made : ℕ) (x : Write) (is : l .job ≡ jobAt t made)
+    (says : taskWrite p (l .payload) t ≡ x) where
+  abbrev u : ℕ
+  u = x .unit
+
   abbrev w : ℕ
-  w = width p u
+  w = width p (x .unit)
+
+  -- the job after one more store
+  abbrev onward : Write → Job
+  onward y = cond (eqb (suc made) (2 * width p (y .unit) + 3)) (follows p (l .payload) t) (jobAt t (suc made))
 
   -- a write's store, the job after it not yet told
-  step-writes : (j : Job) → cond (eqb (suc made) (2 * w + 3)) ready (writing u (suc made)) ≡ j → (e : End)
-      → noted p l e ≡ wrote p l u (suc made) e (then e j)
+  pub store-writes : (e : End)
+      → noted p l e ≡ wroteTo p l (taskWrite p (l .payload) t) (suc made) e (then e (onward (taskWrite p (l .payload) t)))
   unfolding accepted
-  step-writes j h completed = rw (is, h)
-  step-writes j h (tornBy m) = rw is
+  store-writes completed = ap (stepped p l) is ∙ go t
+    where
+      go : (t : Task) → stepped p l (jobAt t made)
+          ≡ wroteTo p l (taskWrite p (l .payload) t) (suc made) completed
+          (cond (eqb (suc made) (2 * width p (taskWrite p (l .payload) t .unit) + 3)) (follows p (l .payload) t) (jobAt t (suc made)))
+      go (alone v) = refl
+  store-writes (tornBy m) = ap (wasCut p l m) is ∙ go t
+    where
+      go : (t : Task) → wasCut p l m (jobAt t made) ≡ wroteTo p l (taskWrite p (l .payload) t) (suc made) (tornBy m) cold
+      go (alone v) = refl
 
-  goes-on : ¬ (suc made ≡ 2 * w + 3) → cond (eqb (suc made) (2 * w + 3)) ready (writing u (suc made)) ≡ writing u (suc made)
+  step-writes : (j : Job) → onward x ≡ j → (e : End) → noted p l e ≡ wroteTo p l x (suc made) e (then e j)
+  step-writes j h e =
+      store-writes e
+      ∙ ap (λ (y : Write). wroteTo p l y (suc made) e (then e (onward y))) says
+      ∙ ap (λ (k : Job). wroteTo p l x (suc made) e (then e k)) h
+
+  goes-on : ¬ (suc made ≡ 2 * w + 3) → onward x ≡ jobAt t (suc made)
   goes-on h = rw (ne-eqb (suc made) (2 * w + 3) h)
 
   pub notes-A : made ≡ 0 → (e : End)
-      → noted p l e ≡ at l (then e (writing u 1)) u (markerLeft e (markerOf l u) A) (l .saved)
+      → noted p l e ≡ at (then e (jobAt t 1)) (l .payload) u (markerLeft e (markerOf l u) A) (l .saved)
   unfolding writeMarker
   notes-A h e =
-      step-writes (writing u 1) (goes-on (omega arith) ∙ ap (λ (n : ℕ). writing u (suc n)) h) e
+      step-writes (jobAt t 1) (goes-on (omega arith) ∙ ap (λ (n : ℕ). jobAt t (suc n)) h) e
       ∙ rw (passes-not w (suc made) e _ (omega arith), eq-eqb (suc made) 1 (omega arith))
 
   pub notes-byte : ¬ (made ≡ 0) → ¬ (made ≡ w + 1) → made < 2 * w + 2 → (e : End)
-      → noted p l e ≡ at l (then e (writing u (suc made))) u (markerOf l u) (l .saved)
+      → noted p l e ≡ at (then e (jobAt t (suc made))) (l .payload) u (markerOf l u) (l .saved)
   unfolding writeMarker
   notes-byte h₁ h₂ h₃ e =
-      step-writes (writing u (suc made)) (goes-on (omega arith)) e
+      step-writes (jobAt t (suc made)) (goes-on (omega arith)) e
       ∙ rw (
         passes-not w (suc made) e _ (omega arith),
         ne-eqb (suc made) 1 (omega arith),
@@ -88,11 +120,11 @@ module _ (p : Plan) (l : Ledger) (u made : ℕ) (is : l .job ≡ writing u made)
 
   pub notes-B : made ≡ w + 1 → (e : End)
       → noted p l e
-      ≡ at l (then e (writing u (suc made))) u (markerLeft e (markerOf l u) B)
-      (cond (decides e (markerLeft e (markerOf l u) B)) (saving u (l .payload) (l .saved)) (l .saved))
+      ≡ at (then e (jobAt t (suc made))) (l .payload) u (markerLeft e (markerOf l u) B)
+      (cond (decides e (markerLeft e (markerOf l u) B)) (saving u (x .bytes) (l .saved)) (l .saved))
   unfolding writeMarker
   notes-B h e =
-      step-writes (writing u (suc made)) (goes-on (omega arith)) e
+      step-writes (jobAt t (suc made)) (goes-on (omega arith)) e
       ∙ rw (
         passes-here w (suc made) e _ (omega arith),
         ne-eqb (suc made) 1 (omega arith),
@@ -100,10 +132,10 @@ module _ (p : Plan) (l : Ledger) (u made : ℕ) (is : l .job ≡ writing u made)
       )
 
   pub notes-OK : made ≡ 2 * w + 2 → (e : End)
-      → noted p l e ≡ at l (then e ready) u (markerLeft e (markerOf l u) OK) (l .saved)
+      → noted p l e ≡ at (then e (follows p (l .payload) t)) (l .payload) u (markerLeft e (markerOf l u) OK) (l .saved)
   unfolding writeMarker
   notes-OK h e =
-      step-writes ready (rw (eq-eqb (suc made) (2 * w + 3) (omega arith))) e
+      step-writes (follows p (l .payload) t) (rw (eq-eqb (suc made) (2 * w + 3) (omega arith))) e
       ∙ rw (
         passes-not w (suc made) e _ (omega arith),
         ne-eqb (suc made) 1 (omega arith),
@@ -114,13 +146,13 @@ module _ (p : Plan) (l : Ledger) (u made : ℕ) (is : l .job ≡ writing u made)
 -- a cleanup's store
 module _ (p : Plan) (l : Ledger) (u made : ℕ) (is : l .job ≡ recovering u made) where
   pub notes-copy : made < width p u → (e : End)
-      → noted p l e ≡ at l (then e (recovering u (suc made))) u (markerOf l u) (l .saved)
+      → noted p l e ≡ at (then e (recovering u (suc made))) (l .payload) u (markerOf l u) (l .saved)
   unfolding accepted cleanupMarker
   notes-copy h completed = rw (is, ne-eqb (suc made) (width p u + 1) (omega arith))
   notes-copy h (tornBy m) = rw (is, ne-eqb (suc made) (width p u + 1) (omega arith))
 
   pub notes-settle : made ≡ width p u → (e : End)
-      → noted p l e ≡ at l (then e ready) u (markerLeft e (markerOf l u) OK) (l .saved)
+      → noted p l e ≡ at (then e ready) (l .payload) u (markerLeft e (markerOf l u) OK) (l .saved)
   unfolding accepted cleanupMarker
   notes-settle h completed = rw (is, eq-eqb (suc made) (width p u + 1) (omega arith))
   notes-settle h (tornBy m) = rw (is, eq-eqb (suc made) (width p u + 1) (omega arith))

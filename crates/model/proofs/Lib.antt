@@ -2,6 +2,7 @@ pub mod Compare
 pub mod RefusalLaws
 pub mod LayoutLaws
 pub mod MarkerLaws
+pub mod Tasks
 pub mod StoreLaws
 pub mod LedgerLaws
 pub mod Invariant

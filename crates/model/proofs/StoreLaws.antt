@@ -3,6 +3,8 @@ use Prim.Native.Nat.{ℕ, zero, suc, _+_, _-_, _≤_, _<_}
 use mathlib.Core.Path.{_≡_, refl, ap, _∙_}
 use mathlib.Core.List.{List, _++_}
 use mathlib.Core.Option.{some}
+use mathlib.Core.Bool.{true, false}
+use lib.Dec.{eqb}
 use native.Mathlib.Omega.{arith}
 use lib.ListN.{getD, getElem?}
 use borrow.Author.Tests.{eq-eqb, ne-eqb}
@@ -15,6 +17,7 @@ use Rattle.model.specs.Refusals.{writeTotal, cleanupTotal}
 use Rattle.model.specs.Stores.{Store, store, copying, writeStores, source, target, cleanupStores}
 use Rattle.model.specs.Calls.{next, cleanupAmong, cleanupFrom, phaseAfter}
 use Rattle.model.proofs.Compare.{below, above, order}
+use Rattle.model.proofs.Tasks.{Task, alone, phaseAt, taskWrite, follows, phased}
 
 -- ---- within a run of copied bytes, and past it
 module _ (u : ℕ) (c : Copy) (f : ℕ → ℕ) (rest : List Store) where
@@ -78,6 +81,12 @@ module _ (p : Plan) (payload image : List ℕ) (u : ℕ) where
   unfolding next cleanupStores
   next-settle d = copying-past u (target d) (λ i. get p image u (byte (source d) i)) _ w 0 w 0 (omega arith)
 
+-- a task's stores are those of a write
+pub next-task : (p : Plan) (payload image : List ℕ) (t : Task) (n : ℕ)
+    → next p payload image (phaseAt t n) ≡ next p (taskWrite p payload t .bytes) image (Writing (taskWrite p payload t .unit) n)
+unfolding next
+next-task p payload image (alone v) n = refl
+
 -- ---- the phase after a store
 module _ (p : Plan) (image : List ℕ) (u n : ℕ) where
   pub write-goes-on : ¬ (suc n ≡ writeTotal (width p u)) → phaseAfter p image (Writing u n) ≡ Writing u (suc n)
@@ -97,6 +106,25 @@ module _ (p : Plan) (image : List ℕ) (u n : ℕ) where
       → phaseAfter p image (Recovering u n d) ≡ cleanupFrom p image (suc u)
   unfolding phaseAfter
   cleanup-ends d h = rw (eq-eqb (suc n) (cleanupTotal (width p u)) h, phaseAfter)
+
+-- the same of a task
+module _ (p : Plan) (payload image : List ℕ) (t : Task) (n : ℕ) where
+  pub task-goes-on : ¬ (suc n ≡ writeTotal (width p (taskWrite p payload t .unit))) → phaseAfter p image (phaseAt t n) ≡ phaseAt t (suc n)
+  unfolding phaseAfter
+  task-goes-on h = go t (ne-eqb (suc n) (writeTotal (width p (taskWrite p payload t .unit))) h)
+    where
+      go : (t : Task) → eqb (suc n) (writeTotal (width p (taskWrite p payload t .unit))) ≡ false
+          → phaseAfter p image (phaseAt t n) ≡ phaseAt t (suc n)
+      go (alone u) e = rw (e, phaseAfter)
+
+  pub task-ends : (d : Direction) → suc n ≡ writeTotal (width p (taskWrite p payload t .unit))
+      → phaseAfter p image (phaseAt t n) ≡ phased d (follows p payload t)
+  unfolding phaseAfter
+  task-ends d h = go t (eq-eqb (suc n) (writeTotal (width p (taskWrite p payload t .unit))) h)
+    where
+      go : (t : Task) → eqb (suc n) (writeTotal (width p (taskWrite p payload t .unit))) ≡ true
+          → phaseAfter p image (phaseAt t n) ≡ phased d (follows p payload t)
+      go (alone u) e = rw (e, phaseAfter)
 
 -- ---- looking for a marker that isn't OK
 module _ (p : Plan) (image : List ℕ) where

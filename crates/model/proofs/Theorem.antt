@@ -2,7 +2,7 @@
 use Prim.Native.Nat.{ℕ, zero, suc, _+_, _≤_, _<_}
 use mathlib.Core.Path.{_≡_, refl, ap, ap₂, sym, _∙_, subst}
 use mathlib.Core.List.{List, [], _∷_, _++_}
-use mathlib.Core.Bool.{true, false, true≢false}
+use mathlib.Core.Bool.{Bool, true, false, true≢false}
 use native.Mathlib.Omega.{arith}
 use lib.ListN.{length, take, replicate, length-replicate, getD-replicate}
 use borrow.Author.Tests.{eq-eqb, ne-eqb, le-ltb, ltb-false}
@@ -18,10 +18,11 @@ use Rattle.model.specs.Ledger as ledger
 use Rattle.model.specs.PowerCut.{call, run, answers, closedBy, repair, Repairs, none, only, Repaired, Survives, PowerCut, PowerCutFromStart}
 use Rattle.model.specs.Foreign.{NeverForeign}
 use Rattle.model.proofs.Compare.{Same, equal, differ, same}
-use Rattle.model.proofs.RefusalLaws.{PlanOk, count-bounds, start-says, format-says, format-cold, job-writing, job-recovering, wake-cold, cut-any, step-recovering}
+use Rattle.model.proofs.RefusalLaws.{PlanOk, count-bounds, start-says, format-says, format-cold, job-recovering, wake-cold, cut-any, step-recovering}
 use Rattle.model.proofs.LayoutLaws.{copy-is, get-formatted, length-formatted, rest-formatted}
 use Rattle.model.proofs.LedgerLaws.{at, notes-copy, notes-settle, none-foreign, ledger-small}
-use Rattle.model.proofs.Invariant.{Whole, Clean, Stage, resting, off, opened, toA, toB, mending, phased, job-phased, Inv, all-clean}
+use Rattle.model.proofs.Invariant.{Whole, Clean, loaded-fine, Stage, resting, off, opened, toA, toB, mending, phased, job-phased, Inv, all-clean}
+use Rattle.model.proofs.Tasks.{Task, alone, jobAt}
 use Rattle.model.proofs.Keeps.{keeps}
 
 -- ---- a formatted device
@@ -72,9 +73,9 @@ module _ (p : Plan) (ok : PlanOk p) (before : List ℕ) where
       go : Stage p (o .image) l (o .device .payload) → badJob p (l .job) ≡ false
       go (resting e mk h) = rw e
       go (off e h) = rw e
-      go (opened v hv e mk h ld) = rw e (job-writing p v 0 hv (omega arith))
-      go (toA j hj e mk hb ha ld) = rw e (job-writing p (l .unit) (suc j) unit (omega arith))
-      go (toB j hj e mk sv ha hb ld) = rw e (job-writing p (l .unit) (suc (width p (l .unit) + suc j)) unit (omega arith))
+      go (opened t v bs e mk h ld) = rw e (loaded-fine t ld 0 (omega arith))
+      go (toA t bs j hj e mk hb ha ld) = rw e (loaded-fine t ld (suc j) (omega arith))
+      go (toB t bs j hj e mk sv ha hb ld) = rw e (loaded-fine t ld (suc (width p (l .unit) + suc j)) (omega arith))
       go (mending j hj e mk hs ht) = rw e (job-recovering p (l .unit) j unit (omega arith))
 
   fed-accepted : (l : Ledger) (c : Call) → told p l c ≡ 0 → fed p l c ≡ accepted p l c
@@ -102,59 +103,73 @@ module _ (p : Plan) (ok : PlanOk p) (before : List ℕ) where
       rw (after-snoc cs (cut m) l) (cut-leaves-cold (after p l cs) (run cs o) m (along cs l o inv .inv))
 
   -- ---- the ledger alone goes through a repair: n accepted steps, none of them from Ready, that save nothing
-  pub data Mends : Ledger → ℕ → Type 0 where
-    done : {l : Ledger} → l .job ≡ ready → Mends l 0
-    more : {l : Ledger} {n : ℕ} → told p l step ≡ 0 → isReady (l .job) ≡ false → fed p l step .saved ≡ l .saved
-        → Mends (fed p l step) n → Mends l (suc n)
+  pub data Mends : Ledger → ℕ → Ledger → Type 0 where
+    done : {l : Ledger} → Mends l 0 l
+    more : {l l′ : Ledger} {n : ℕ} → told p l step ≡ 0 → isReady (l .job) ≡ false → fed p l step .saved ≡ l .saved
+        → Mends (fed p l step) n l′ → Mends l (suc n) l′
 
-  mends-answers : {l : Ledger} {n : ℕ} → Mends l n → tells p l (replicate n step) ≡ replicate n 0
+  mends-answers : {l l′ : Ledger} {n : ℕ} → Mends l n l′ → tells p l (replicate n step) ≡ replicate n 0
   unfolding tells
-  mends-answers (done r) = refl
+  mends-answers done = refl
   mends-answers (more a r s g) = ap₂ _∷_ a (mends-answers g)
 
-  mends-ready : {l : Ledger} {n : ℕ} → Mends l n → after p l (replicate n step) .job ≡ ready
+  mends-after : {l l′ : Ledger} {n : ℕ} → Mends l n l′ → after p l (replicate n step) ≡ l′
   unfolding after
-  mends-ready (done r) = r
-  mends-ready (more a r s g) = mends-ready g
+  mends-after done = refl
+  mends-after (more a r s g) = mends-after g
 
-  mends-saved : {l : Ledger} {n : ℕ} → Mends l n → after p l (replicate n step) .saved ≡ l .saved
-  unfolding after
-  mends-saved (done r) = refl
+  mends-saved : {l l′ : Ledger} {n : ℕ} → Mends l n l′ → l′ .saved ≡ l .saved
+  mends-saved done = refl
   mends-saved (more a r s g) = mends-saved g ∙ s
 
-  mends-not-earlier : {l : Ledger} {n : ℕ} → Mends l n → (j : ℕ) → j < n → isReady (after p l (replicate j step) .job) ≡ false
+  mends-not-earlier : {l l′ : Ledger} {n : ℕ} → Mends l n l′ → (j : ℕ) → j < n → isReady (after p l (replicate j step) .job) ≡ false
   unfolding after
-  mends-not-earlier (done r) j h = absurd (omega arith)
+  mends-not-earlier done j h = absurd (omega arith)
   mends-not-earlier (more a r s g) zero h = r
   mends-not-earlier (more a r s g) (suc j) h = mends-not-earlier g j (omega arith)
 
   -- a cleanup of unit u that has made j stores, with n bytes to copy still
-  mends-unit : (u : ℕ) → u < p .count → (n j : ℕ) (l : Ledger) → l .job ≡ recovering u j → j + n ≡ width p u → Mends l (suc n)
+  abbrev settled : Ledger → ℕ → Ledger
+  settled l u = at ready (l .payload) u OK (l .saved)
+
+  mends-unit : (u : ℕ) → u < p .count → (n j : ℕ) (l : Ledger) → l .job ≡ recovering u j → j + n ≡ width p u
+      → Mends l (suc n) (settled l u)
   unfolding told
   mends-unit u hu zero j l e h =
       let fine : told p l step ≡ 0 = step-recovering (judged p l) ok refl u j e hu (omega arith) in
       let is = fed-accepted l step fine ∙ notes-settle p l u j e (omega arith) completed in
-      more fine (rw e) (ap (λ (x : Ledger). x .saved) is) (subst (λ (x : Ledger). Mends x 0) (sym is) (done refl))
+      more fine (rw e) (ap (λ (x : Ledger). x .saved) is) (subst (λ (x : Ledger). Mends x 0 (settled l u)) (sym is) done)
   mends-unit u hu (suc n) j l e h =
       let fine : told p l step ≡ 0 = step-recovering (judged p l) ok refl u j e hu (omega arith) in
       let is = fed-accepted l step fine ∙ notes-copy p l u j e (omega arith) completed in
+      let l₁ : Ledger = at (recovering u (suc j)) (l .payload) u (ledger.markerOf l u) (l .saved) in
       more fine (rw e) (ap (λ (x : Ledger). x .saved) is)
-      (subst (λ (x : Ledger). Mends x (suc n)) (sym is) (mends-unit u hu n (suc j) _ refl (omega arith)))
+      (subst (λ (x : Ledger). Mends x (suc n) (settled l u)) (sym is) (mends-unit u hu n (suc j) l₁ refl (omega arith)))
 
-  -- ---- in Ready every unit is clean
-  ready-clean : (l : Ledger) (o : Outcome) → Inv p before l o → l .job ≡ ready
+  -- ---- in Ready, and at the start of a write, every unit is clean
+  abbrev isStill : Job → Bool
+  isStill cold = false
+  isStill ready = true
+  isStill (writing u zero) = true
+  isStill (writing u (suc n)) = false
+  isStill (recovering u n) = false
+
+  moving : (t : Task) (n : ℕ) → isStill (jobAt t (suc n)) ≡ false
+  moving (alone u) n = refl
+
+  still-clean : (l : Ledger) (o : Outcome) → Inv p before l o → isStill (l .job) ≡ true
       → (v : ℕ) → v < p .count → Clean p (o .image) (l .saved) v
-  ready-clean l o inv r = go (inv .stage)
+  still-clean l o inv r = go (inv .stage)
     where
-      other : {X : Type 0} (j : Job) → l .job ≡ j → isReady j ≡ false → X
-      other j e t = absurd (true≢false (ap isReady (sym r ∙ e) ∙ t))
+      other : {X : Type 0} (j : Job) → l .job ≡ j → isStill j ≡ false → X
+      other j e t = absurd (true≢false (sym r ∙ ap isStill e ∙ t))
 
       go : Stage p (o .image) l (o .device .payload) → (v : ℕ) → v < p .count → Clean p (o .image) (l .saved) v
       go (resting e mk both) = all-clean (inv .frame) (record { mark = inv .mark ∙ mk; both = both })
       go (off e h) = other _ e refl
-      go (opened v hv e mk h ld) = other _ e refl
-      go (toA j hj e mk hb ha ld) = other _ e refl
-      go (toB j hj e mk sv ha hb ld) = other _ e refl
+      go (opened t v bs e mk both ld) = all-clean (inv .frame) (record { mark = inv .mark ∙ mk; both = both })
+      go (toA t bs j hj e mk hb ha ld) = other _ e (moving t _)
+      go (toB t bs j hj e mk sv ha hb ld) = other _ e (moving t _)
       go (mending j hj e mk hs ht) = other _ e refl
 
   not-ready : (l : Ledger) (o : Outcome) → Inv p before l o → isReady (l .job) ≡ false → ¬ (o .device .phase ≡ Ready)
@@ -174,13 +189,15 @@ module _ (p : Plan) (ok : PlanOk p) (before : List ℕ) where
     unfolding tells
     tells-repair n = refl
 
-    repaired-in : (n : ℕ) → Repairs p (o .image) n → Mends (fed p l wake) n → Repaired p before (l .saved) o
-    repaired-in n needed mends =
+    repaired-in : (n : ℕ) → Repairs p (o .image) n → (l₁ : Ledger) → Mends (fed p l wake) n l₁ → l₁ .job ≡ ready
+        → Repaired p before (l .saved) o
+    repaired-in n needed l₁ mends job =
         let t = along (repair n) l o inv in
-        let e : after p l (repair n) .job ≡ ready = ap (λ (x : Ledger). x .job) (after-repair n) ∙ mends-ready mends in
+        let fin : after p l (repair n) ≡ l₁ = after-repair n ∙ mends-after mends in
+        let e : after p l (repair n) .job ≡ ready = ap (λ (x : Ledger). x .job) fin ∙ job in
         let s : after p l (repair n) .saved ≡ l .saved =
-        ap (λ (x : Ledger). x .saved) (after-repair n) ∙ mends-saved mends ∙ same-saved in
-        let all = ready-clean (after p l (repair n)) (run (repair n) o) (t .inv) e in
+        ap (λ (x : Ledger). x .saved) fin ∙ mends-saved mends ∙ same-saved in
+        let all = still-clean (after p l (repair n)) (run (repair n) o) (t .inv) (ap isStill e) in
         let frame = t .inv .frame in
         let plus : suc n ≡ 1 + n = omega arith in
         record {
@@ -213,19 +230,21 @@ module _ (p : Plan) (ok : PlanOk p) (before : List ℕ) where
 
       go : Same (l .marker) OK → Repaired p before (l .saved) o
       go (equal q) =
-          let to : fed p l wake ≡ ledger.noted l ready (l .payload) = is ∙ rw (eq-eqb (l .marker) OK q) in
+          let l₁ : Ledger = ledger.noted l ready (l .payload) in
+          let to : fed p l wake ≡ l₁ = is ∙ rw (eq-eqb (l .marker) OK q) in
           repaired-in l o inv woken (ap (λ (x : Ledger). x .saved) to) 0
           (none (λ v hv. elim (same v (l .unit)) [ equal x ↦ rw x (inv .mark ∙ q) | differ x ↦ others v hv x ]))
-          (subst (λ (x : Ledger). Mends x 0) (sym to) (done refl))
+          l₁ (subst (λ (x : Ledger). Mends x 0 l₁) (sym to) done) refl
       go (differ q) =
           let u : ℕ = l .unit in
-          let to : fed p l wake ≡ ledger.noted l (recovering u 0) (l .payload) = is ∙ rw (ne-eqb (l .marker) OK q) in
+          let l₀ : Ledger = ledger.noted l (recovering u 0) (l .payload) in
+          let to : fed p l wake ≡ l₀ = is ∙ rw (ne-eqb (l .marker) OK q) in
           let plus : suc (width p u) ≡ 1 + width p u = omega arith in
-          let mends : Mends (fed p l wake) (suc (width p u)) =
-          subst (λ (x : Ledger). Mends x (suc (width p u))) (sym to)
-          (mends-unit u (inv .frame .unit) (width p u) 0 _ refl (omega arith)) in
+          let mends : Mends (fed p l wake) (suc (width p u)) (settled l₀ u) =
+          subst (λ (x : Ledger). Mends x (suc (width p u)) (settled l₀ u)) (sym to)
+          (mends-unit u (inv .frame .unit) (width p u) 0 l₀ refl (omega arith)) in
           repaired-in l o inv woken (ap (λ (x : Ledger). x .saved) to) (1 + width p u)
-          (only u (inv .frame .unit) (rw (inv .mark) q) others) (rw plus at mends)
+          (only u (inv .frame .unit) (rw (inv .mark) q) others) (settled l₀ u) (rw plus at mends) refl
 
   survives : (f : Outcome) → Inv p before (opening p) f → (cs : List Call) (m : ℕ) → Survives p before f m cs
   survives f inv cs m =
