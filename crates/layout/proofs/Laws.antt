@@ -78,7 +78,7 @@ module _ (p : Plan) where
   pub unmeasured : (n k t : ℕ) → n ≡ suc k → suc k ≡ startNumber p → (n ≡ startNumber p) × (n ≡ 0 → t ≡ total p)
   unmeasured n k t e is = (e ∙ is, λ z. absurd (omega arith))
 
-  pub base-more : (u : ℕ) → base p (u + 1) ≡ base p u + unitLength (width p u)
+  pub base-more : (u : ℕ) → base p (u + 1) ≡ base p u + unitLength p u
   unfolding base
   base-more u = rw (add-one u)
 

@@ -3,20 +3,14 @@
 ghost use mathlib.Core.Path.{_≡_};
 ghost use mathlib.Core.Bool.{_||_};
 ghost use mathlib.Core.List.{[], _∷_};
-ghost use Prim.Native.Nat.{_*_, _≤_};
+ghost use Prim.Native.Nat.{_+_, _*_, _≤_};
 ghost use lib.Dec.{leb};
 ghost use Rattle.model.specs.Layout.{unitLength, base, total, width};
 ghost use Rattle.model.specs.Refusals.{_when_, first, startNumber, deviceRow};
+ghost use Rattle.layout.specs.Parts.{partsOf};
 ghost use Rattle.layout.specs.Seen.{seen};
 use model::Phase;
 use model::Plan;
-
-// Bytes of a unit: its marker and two copies.
-pub fn unit_length(width: u16) -> usize
-    ensures { λ r. ⌜ (r ≡ unitLength width) × (r ≤ 131071) ⌝ }
-{
-    1 + 2 * (width as usize)
-}
 
 // The width of a unit; 0 past the eighth.
 pub fn width_of(plan: Plan, unit: u16) -> u16
@@ -27,6 +21,13 @@ pub fn width_of(plan: Plan, unit: u16) -> u16
     if at < 8 { widths[at] } else { 0 }
 }
 
+// Bytes of a unit: its marker and two copies.
+pub fn unit_length(plan: Plan, unit: u16) -> usize
+    ensures { λ r. ⌜ (r ≡ unitLength plan unit) × (r ≤ 131071) ⌝ }
+{
+    1 + 2 * (width_of(plan, unit) as usize)
+}
+
 // The image byte where a unit begins.
 pub fn base_of(plan: Plan, unit: u16) -> usize
     ensures { λ r. ⌜ (r ≡ base plan unit) × (r ≤ unit * 131071) ⌝ }
@@ -34,10 +35,32 @@ pub fn base_of(plan: Plan, unit: u16) -> usize
     let mut sum: usize = 0;
     let mut i: u16 = 0;
     while i < unit {
-        sum = sum + unit_length(width_of(plan, i));
+        sum = sum + unit_length(plan, i);
         i = i + 1;
     }
     sum
+}
+
+// Where the parts of a unit lie: its first image byte and the byte past its last, and, counted from its first byte, where each
+// copy begins. The marker is the unit's first byte.
+pub struct Parts {
+    pub base: usize,
+    pub a: usize,
+    pub b: usize,
+    pub end: usize,
+}
+
+pub fn parts_of(plan: Plan, unit: u16) -> Parts
+    ensures { λ r. ⌜ (r ≡ partsOf plan unit) × (r .a ≤ r .b) × (r .base + r .b ≤ r .end) × (r .end ≤ 8589934591) ⌝ }
+{
+    let w = width_of(plan, unit) as usize;
+    let base = base_of(plan, unit);
+    Parts {
+        base: base,
+        a: 1,
+        b: 1 + w,
+        end: base + unit_length(plan, unit),
+    }
 }
 
 // What one look at a plan's widths gives: 0, or refusal 1 or 2, and the bytes of all units if there is no refusal.
@@ -76,7 +99,7 @@ fn measure(plan: Plan) -> Measured
         if 256 < width {
             return unfit(2);
         }
-        total = total + unit_length(width);
+        total = total + unit_length(plan, i);
         i = i + 1;
     }
     Measured {

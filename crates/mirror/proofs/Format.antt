@@ -1,5 +1,5 @@
 -- Zeros in a span, and formatted units one after the other.
-use Prim.Native.Nat.{ℕ, zero, suc, _+_, _-_, _*_, _<_, _≤_}
+use Prim.Native.Nat.{ℕ, zero, suc, _+_, _-_, _<_, _≤_}
 use mathlib.Core.Path.{_≡_, _∙_, sym, ap}
 use mathlib.Core.List.{List, [], _∷_, _++_, append-assoc}
 use native.Mathlib.Omega.{arith}
@@ -8,7 +8,7 @@ use lib.ListN.{length, take, drop, set, replicate, length-take, length-drop, rep
 use lib.Seq.{take-suc-set, take-at, drop-at, drop-drop}
 use Rattle.model.specs.declared.Plan.{Plan}
 use Rattle.model.specs.Marker.{OK}
-use Rattle.model.specs.Layout.{width, unitLength, base, fresh}
+use Rattle.model.specs.Layout.{unitLength, base, fresh}
 use Rattle.model.proofs.RefusalLaws.{PlanOk}
 use Rattle.model.proofs.LayoutLaws.{length-fresh}
 
@@ -24,7 +24,7 @@ marker-first (suc n) h =
     rw e
 
 -- one more unit: ys is the span of unit u after it was formatted, b where it begins and l its length
-pub fresh-more : (p : Plan) → PlanOk p → (u b l : ℕ) (before image ys : List ℕ) → b ≡ base p u → l ≡ unitLength (width p u)
+pub fresh-more : (p : Plan) → PlanOk p → (u b l : ℕ) (before image ys : List ℕ) → b ≡ base p u → l ≡ unitLength p u
     → b + l ≤ length image → image ≡ fresh p u ++ drop b before
     → ys ≡ OK ∷ replicate (length (take ((b + l) - b) (drop b image)) - 1) 0
     → take b image ++ (ys ++ drop ((b + l) - b) (drop b image)) ≡ fresh p (u + 1) ++ drop (b + l) before
@@ -32,8 +32,7 @@ unfolding fresh
 fresh-more p ok u b l before image ys eb el room e f =
     let sub : (b + l) - b ≡ l = omega arith in
     let len : length (take l (drop b image)) ≡ l = simp (length-take, length-drop) (omega arith) in
-    let zeros : l - 1 ≡ 2 * width p u = omega arith in
-    let is : ys ≡ OK ∷ replicate (2 * width p u) 0 = rw (sub, len, zeros) at f in
+    let is : ys ≡ OK ∷ replicate (unitLength p u - 1) 0 = rw (sub, len, el) at f in
     let long : length (fresh p u) ≡ b = length-fresh p ok u ∙ sym eb in
     rw (sub, e, is, take-at (fresh p u) (drop b before) b long, drop-at (fresh p u) (drop b before) b long, drop-drop l b before, add-one u)
-    (sym (append-assoc (fresh p u) (OK ∷ replicate (2 * width p u) 0) (drop (b + l) before)))
+    (sym (append-assoc (fresh p u) (OK ∷ replicate (unitLength p u - 1) 0) (drop (b + l) before)))

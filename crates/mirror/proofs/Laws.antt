@@ -17,28 +17,43 @@ use Rattle.model.specs.declared.Phase.{Phase}
 use Rattle.model.specs.declared.Phase.the-variants.{Ready, Writing, Recovering}
 use Rattle.model.specs.Marker.{OK, A, B, torn, End, completed, tornBy}
 use Rattle.model.specs.Layout.{copyA, copyB, Cell, marker, byte, width, unitLength, offset, base, total, place, get, put}
-use Rattle.model.specs.Stores.{Store, store, writeStores, cleanupStores, cellLeft, stored}
+use Rattle.model.specs.Stores.{Store, store, writeStores, cleanupStores, tornCell, stored}
 use Rattle.model.specs.Calls.{next, jobOf, cleanupFrom, phaseAfter}
 use Rattle.model.specs.Refusals.{writeTotal, cleanupTotal, badJob}
 use Rattle.model.proofs.RefusalLaws.{PlanOk, past, false-or, width-bounds}
-use Rattle.model.proofs.LayoutLaws.{InUnit, offset-bound, base-bound}
+use Rattle.model.proofs.LayoutLaws.{InUnit, unit-some, offset-bound, base-bound}
+use Rattle.layout.specs.declared.Parts.{Parts}
+use Rattle.layout.specs.Parts.{partsOf}
 use Rattle.layout.specs.Seen.{seen}
 use Rattle.model.proofs.StoreLaws.{next-A, next-to-A, next-B, next-to-B, next-OK, next-copy, next-settle, write-goes-on, write-ends, cleanup-goes-on, cleanup-ends}
 use Rattle.mirror.specs.Placed.{placed, Chosen, Comes, Live}
 
 -- what the code looked up of unit u, and the store that it chose
-pub placing : (p : Plan) (u w b l : ℕ) → w ≡ width p u → b ≡ base p u → l ≡ unitLength w
-    → (o : Option Store) (c : Cell) (x a y : ℕ) → o ≡ some (store u c x) → a ≡ offset w c → y ≡ x → InUnit w c
-    → (r : Placed) → r ≡ record { base = b; end = b + l; at = a; byte = y } → Chosen p u o r
-placing p u w b l ew eb el o c x a y e ea ey h r is =
-    let end : b + l ≡ base p u + unitLength (width p u) = rw (eb, el, ew) in
-    let at : a ≡ offset (width p u) c = rw ew at ea in
+pub placing : (p : Plan) → PlanOk p → (u : ℕ) (q : Parts) → q ≡ partsOf p u
+    → (o : Option Store) (c : Cell) (x a y : ℕ) → o ≡ some (store u c x) → a ≡ offset p u c → y ≡ x → InUnit (width p u) c
+    → (r : Placed) → r ≡ record { base = q .base; end = q .end; at = a; byte = y } → Chosen p u o r
+placing p ok u q eq o c x a y e ea ey h r is =
+    let begins : q .base ≡ base p u = ap (λ (t : Parts). t .base) eq in
+    let ends : q .end ≡ base p u + unitLength p u = ap (λ (t : Parts). t .end) eq in
     rw is
     (record {
-      is = (λ i. record { base = eb i; end = end i; at = at i; byte = ey i }) ∙ ap (placed p) (sym e);
-      inside = omega (arith, offset-bound w c h);
-      ends = end;
+      is = (λ i. record { base = begins i; end = ends i; at = ea i; byte = ey i }) ∙ ap (placed p) (sym e);
+      inside = omega (arith, offset-bound p ok u c h);
+      ends = ends;
     })
+
+-- a cell at the offset a lies in every image that has room for the unit
+pub part-inside : (p : Plan) → PlanOk p → (u : ℕ) (q : Parts) → q ≡ partsOf p u → (c : Cell) (a size : ℕ) → a ≡ offset p u c
+    → InUnit (width p u) c → base p u + unitLength p u ≤ size → q .base + a < size
+part-inside p ok u q eq c a size ea h l =
+    omega (arith, ap (λ (t : Parts). t .base) eq, offset-bound p ok u c h)
+
+-- where byte i of a copy lies, by where the copy begins
+pub parts-A : (p : Plan) (u : ℕ) (q : Parts) → q ≡ partsOf p u → (i : ℕ) → q .a + i ≡ offset p u (byte copyA i)
+parts-A p u q e i = omega (arith, ap (λ (t : Parts). t .a) e)
+
+pub parts-B : (p : Plan) (u : ℕ) (q : Parts) → q ≡ partsOf p u → (i : ℕ) → q .b + i ≡ offset p u (byte copyB i)
+parts-B p u q e i = omega (arith, ap (λ (t : Parts). t .b) e)
 
 module _ (p : Plan) (payload : List ℕ) (u n w : ℕ) (is : w ≡ width p u) where
   abbrev nth : Option Store
@@ -69,16 +84,20 @@ module _ (p : Plan) (payload : List ℕ) (u n w : ℕ) (is : w ≡ width p u) wh
   write-OK h l = ap after (omega arith) ∙ next-OK p payload [] u
 
 module _ (p : Plan) (image : List ℕ) (u n w : ℕ) (d : Direction) (is : w ≡ width p u) where
-  -- by the direction, as the code reads the good copy: b is where the unit begins
-  pub cleanup-A-to-B : d ≡ AToB → n < w → (b : ℕ) → b ≡ base p u
-      → getElem? (cleanupStores p image u d) n ≡ some (store u (byte copyB n) (getD image (b + (1 + n)) 0))
-  unfolding next get
-  cleanup-A-to-B e h b eb = rw (e, eb) (next-copy p [] image u AToB n (omega arith))
+  -- by the direction, as the code reads the good copy
+  module _ (q : Parts) (eq : q ≡ partsOf p u) where
+    begins : q .base ≡ base p u
+    begins = ap (λ (t : Parts). t .base) eq
 
-  pub cleanup-B-to-A : d ≡ BToA → n < w → (b : ℕ) → b ≡ base p u
-      → getElem? (cleanupStores p image u d) n ≡ some (store u (byte copyA n) (getD image (b + (1 + w + n)) 0))
-  unfolding next get
-  cleanup-B-to-A e h b eb = rw (e, eb, is) (next-copy p [] image u BToA n (omega arith))
+    pub cleanup-A-to-B : d ≡ AToB → n < w
+        → getElem? (cleanupStores p image u d) n ≡ some (store u (byte copyB n) (getD image (q .base + (q .a + n)) 0))
+    unfolding next get
+    cleanup-A-to-B e h = rw (e, begins, parts-A p u q eq n) (next-copy p [] image u AToB n (omega arith))
+
+    pub cleanup-B-to-A : d ≡ BToA → n < w
+        → getElem? (cleanupStores p image u d) n ≡ some (store u (byte copyA n) (getD image (q .base + (q .b + n)) 0))
+    unfolding next get
+    cleanup-B-to-A e h = rw (e, begins, parts-B p u q eq n) (next-copy p [] image u BToA n (omega arith))
 
   pub cleanup-OK : w ≤ n → n < width p u + 1 → getElem? (cleanupStores p image u d) n ≡ some (store u marker OK)
   unfolding next
@@ -100,7 +119,7 @@ pub record Work (p : Plan) (u n most : ℕ) (image : List ℕ) : Type 0 where
   pub unit : u < p .count
   pub narrow : width p u ≤ 256
   pub made : n < most
-  pub span : base p u + unitLength (width p u) ≤ length image
+  pub span : base p u + unitLength p u ≤ length image
 
 work : (p : Plan) (phase : Phase) (image : List ℕ) → Room p phase image → (u made most : ℕ)
     → (leb (p .count) u || leb most made) ≡ false → Work p u made most image
@@ -144,27 +163,22 @@ module _ (p : Plan) (image : List ℕ) (u n w : ℕ) (is : w ≡ width p u) wher
       cleanup-goes-on p image u n d (λ e. h (omega arith)) ∙ ap (λ (k : ℕ). Recovering u k d) (sym (add-one n))
 
 -- ---- a placed store is the model's
-torn-cell : (w : ℕ) (c : Cell) (old new m : ℕ) → cond (eqb (offset w c) 0) (torn old new m) m ≡ cellLeft (tornBy m) c old new
-torn-cell w marker old new m = refl
-torn-cell w (byte copyA i) old new m = rw (ne-eqb (1 + i) 0 (omega arith))
-torn-cell w (byte copyB i) old new m = rw (ne-eqb (1 + w + i) 0 (omega arith))
-
-whole-cell : (c : Cell) (old new : ℕ) → new ≡ cellLeft completed c old new
-whole-cell marker old new = refl
-whole-cell (byte c i) old new = refl
+torn-cell : (p : Plan) (u : ℕ) (c : Cell) (old new m : ℕ) → cond (eqb (offset p u c) 0) (torn old new m) m ≡ tornCell m c old new
+torn-cell p u marker old new m = refl
+torn-cell p u (byte copyA i) old new m = rw (ne-eqb (offset p u (byte copyA i)) 0 (omega arith))
+torn-cell p u (byte copyB i) old new m = rw (ne-eqb (offset p u (byte copyB i)) 0 (omega arith))
 
 module _ (p : Plan) (image : List ℕ) where
-  placed-none : (e : End) (o : Option Store) → placed p o .end ≡ 0 → image ≡ stored p image e o
+  placed-none : PlanOk p → (e : End) (o : Option Store) → placed p o .end ≡ 0 → image ≡ stored p image e o
   unfolding stored
-  placed-none e none z = refl
-  placed-none e (some s) z = absurd (omega arith)
+  placed-none ok e none z = refl
+  placed-none ok e (some s) z = absurd (omega (arith, unit-some p ok (s .unit)))
 
   placed-made : (o : Option Store) → ¬ (placed p o .end ≡ 0)
       → set image (placed p o .base + placed p o .at) (placed p o .byte) ≡ stored p image completed o
   unfolding stored put
   placed-made none h = absurd (h refl)
-  placed-made (some s) h =
-      ap (λ (x : ℕ). set image (place p (s .unit) (s .cell)) x) (whole-cell (s .cell) (get p image (s .unit) (s .cell)) (s .value))
+  placed-made (some s) h = refl
 
   placed-torn : (m : ℕ) (o : Option Store) → ¬ (placed p o .end ≡ 0)
       → set image (placed p o .base + placed p o .at)
@@ -174,11 +188,11 @@ module _ (p : Plan) (image : List ℕ) where
   placed-torn m none h = absurd (h refl)
   placed-torn m (some s) h =
       ap (λ (x : ℕ). set image (place p (s .unit) (s .cell)) x)
-      (torn-cell (width p (s .unit)) (s .cell) (getD image (place p (s .unit) (s .cell)) 0) (s .value) m)
+      (torn-cell p (s .unit) (s .cell) (getD image (place p (s .unit) (s .cell)) 0) (s .value) m)
 
   module _ (o : Option Store) (r : Placed) (is : r ≡ placed p o) where
-    pub no-store : (e : End) → r .end ≡ 0 → image ≡ stored p image e o
-    no-store e z = placed-none e o (sym (ap (λ (x : Placed). x .end) is) ∙ z)
+    pub no-store : PlanOk p → (e : End) → r .end ≡ 0 → image ≡ stored p image e o
+    no-store ok e z = placed-none ok e o (sym (ap (λ (x : Placed). x .end) is) ∙ z)
 
     pub store-made : ¬ (r .end ≡ 0) → set image (r .base + r .at) (r .byte) ≡ stored p image completed o
     store-made h = rw is (placed-made o (rw is at h))
@@ -190,7 +204,7 @@ module _ (p : Plan) (image : List ℕ) where
 
 -- ---- a chosen store comes next, or none does
 pub chosen-comes : (p : Plan) (image : List ℕ) (u : ℕ) (o o′ : Option Store) (r : Placed) → Chosen p u o r → o′ ≡ o
-    → base p u + unitLength (width p u) ≤ length image → Comes p image o′ r
+    → base p u + unitLength p u ≤ length image → Comes p image o′ r
 chosen-comes p image u o o′ r h e l =
     record {
       is = h .is ∙ ap (placed p) (sym e);

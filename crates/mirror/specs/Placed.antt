@@ -7,7 +7,7 @@ use lib.ListN.{length}
 use Rattle.mirror.specs.declared.Placed.{Placed}
 use Rattle.model.specs.declared.Phase.{Phase}
 use Rattle.model.specs.declared.Plan.{Plan}
-use Rattle.model.specs.Layout.{width, unitLength, offset, base}
+use Rattle.model.specs.Layout.{unitLength, offset, base}
 use Rattle.model.specs.Refusals.{first, deviceRow}
 use Rattle.model.specs.Stores.{Store}
 use Rattle.layout.specs.Seen.{seen}
@@ -17,8 +17,8 @@ placed p none = record { base = 0; end = 0; at = 0; byte = 0 }
 placed p (some s) =
     record {
       base = base p (s .unit);
-      end = base p (s .unit) + unitLength (width p (s .unit));
-      at = offset (width p (s .unit)) (s .cell);
+      end = base p (s .unit) + unitLength p (s .unit);
+      at = offset p (s .unit) (s .cell);
       byte = s .value;
     }
 
@@ -26,7 +26,7 @@ placed p (some s) =
 pub record Chosen (p : Plan) (u : ℕ) (o : Option Store) (r : Placed) : Type 0 where
   pub is : r ≡ placed p o
   pub inside : r .base + r .at < r .end
-  pub ends : r .end ≡ base p u + unitLength (width p u)
+  pub ends : r .end ≡ base p u + unitLength p u
 
 -- r is the store o, if there is one, and lies in the image
 pub record Comes (p : Plan) (image : List ℕ) (o : Option Store) (r : Placed) : Type 0 where

@@ -14,7 +14,9 @@ ghost use Rattle.model.specs.Refusals.{writeTotal, cleanupTotal, anyForeign};
 ghost use Rattle.model.specs.Stores.{writeStores, cleanupStores, stored};
 ghost use Rattle.model.specs.Calls.{next, phaseAfter, cleanupFrom};
 ghost use Rattle.mirror.specs.Placed.{Live, Chosen, Comes};
+use layout::Parts;
 use layout::base_of;
+use layout::parts_of;
 use layout::unit_length;
 use layout::width_of;
 use model::Direction;
@@ -30,58 +32,68 @@ struct Placed {
     byte: u8,
 }
 
-fn place(base: usize, end: usize, at: usize, byte: u8) -> Placed
-    ensures { λ r. ⌜ r ≡ record { base = base; end = end; at = at; byte = byte } ⌝ }
+fn place(parts: Parts, at: usize, byte: u8) -> Placed
+    ensures { λ r. ⌜ r ≡ record { base = parts .base; end = parts .end; at = at; byte = byte } ⌝ }
 {
     Placed {
-        base: base,
-        end: end,
+        base: parts.base,
+        end: parts.end,
         at: at,
         byte: byte,
     }
 }
 
+// No store: its span ends at 0.
+fn nowhere() -> Placed
+    ensures { λ r. ⌜ r ≡ record { base = 0; end = 0; at = 0; byte = 0 } ⌝ }
+{
+    Placed {
+        base: 0,
+        end: 0,
+        at: 0,
+        byte: 0,
+    }
+}
+
 // The next store of a write: marker A, copy A, marker B, copy B, marker OK.
 fn write_store(plan: Plan, payload: &[u8], unit: u16, made: u16) -> Placed
-    requires { ⌜ (width plan unit ≤ 256) × (made < writeTotal (width plan unit)) × (length (now payload) ≡ 256) ⌝ }
+    requires { ⌜ PlanOk plan × (width plan unit ≤ 256) × (made < writeTotal (width plan unit)) × (length (now payload) ≡ 256) ⌝ }
     ensures { λ r. ⌜ Chosen plan unit (getElem? (writeStores plan unit (now (payload .entry))) made) r ⌝ }
 {
-    let width = width_of(plan, unit);
-    let base = base_of(plan, unit);
-    let end = base + unit_length(width);
-    let w = width as usize;
+    let w = width_of(plan, unit) as usize;
+    let parts = parts_of(plan, unit);
     let n = made as usize;
     if n == 0 {
-        return place(base, end, 0, Marker::A);
+        return place(parts, 0, Marker::A);
     }
     if n <= w {
-        return place(base, end, n, payload[n - 1]);
+        return place(parts, parts.a + (n - 1), payload[n - 1]);
     }
     if n == w + 1 {
-        return place(base, end, 0, Marker::B);
+        return place(parts, 0, Marker::B);
     }
     if n <= 2 * w + 1 {
-        return place(base, end, n - 1, payload[n - (w + 2)]);
+        return place(parts, parts.b + (n - (w + 2)), payload[n - (w + 2)]);
     }
-    place(base, end, 0, Marker::OK)
+    place(parts, 0, Marker::OK)
 }
 
 // The next store of a cleanup: a byte of the good copy as it is now, or marker OK.
 fn cleanup_store(plan: Plan, image: &[u8], unit: u16, made: u16, direction: Direction) -> Placed
-    requires { ⌜ (base plan unit + unitLength (width plan unit) ≤ length (now image)) × (made < cleanupTotal (width plan unit)) ⌝ }
+    requires { ⌜ PlanOk plan × (base plan unit + unitLength plan unit ≤ length (now image)) × (made < cleanupTotal (width plan unit)) ⌝ }
     ensures { λ r. ⌜ Chosen plan unit (getElem? (cleanupStores plan (now (image .entry)) unit direction) made) r ⌝ }
 {
-    let width = width_of(plan, unit);
-    let base = base_of(plan, unit);
-    let end = base + unit_length(width);
-    let w = width as usize;
+    let w = width_of(plan, unit) as usize;
+    let parts = parts_of(plan, unit);
     let n = made as usize;
     if w <= n {
-        return place(base, end, 0, Marker::OK);
+        return place(parts, 0, Marker::OK);
     }
+    let a = parts.a + n;
+    let b = parts.b + n;
     match direction {
-        Direction::AToB => place(base, end, 1 + w + n, image[base + (1 + n)]),
-        Direction::BToA => place(base, end, 1 + n, image[base + (1 + w + n)]),
+        Direction::AToB => place(parts, b, image[parts.base + a]),
+        Direction::BToA => place(parts, a, image[parts.base + b]),
     }
 }
 
@@ -91,8 +103,8 @@ fn next_store(plan: Plan, payload: &[u8], phase: Phase, image: &[u8]) -> Placed
     ensures { λ r. ⌜ Comes plan (now (image .entry)) (next plan (now (payload .entry)) (now (image .entry)) phase) r ⌝ }
 {
     match phase {
-        Phase::Cold => place(0, 0, 0, 0),
-        Phase::Ready => place(0, 0, 0, 0),
+        Phase::Cold => nowhere(),
+        Phase::Ready => nowhere(),
         Phase::Writing { unit, made } => write_store(plan, payload, unit, made),
         Phase::Recovering {
             unit,
@@ -194,7 +206,7 @@ pub fn cleanup_from(plan: Plan, image: &[u8], from: u16) -> Phase
                 direction: direction,
             };
         }
-        at = at + unit_length(width_of(plan, unit));
+        at = at + unit_length(plan, unit);
         unit = unit + 1;
     }
     Phase::Ready
@@ -283,7 +295,7 @@ pub fn format_units(plan: Plan, image: &mut [u8])
     let mut unit: u16 = 0;
     let mut base: usize = 0;
     while unit < count {
-        let end = base + unit_length(width_of(plan, unit));
+        let end = base + unit_length(plan, unit);
         format_unit(&mut image[base..end]);
         base = end;
         unit = unit + 1;

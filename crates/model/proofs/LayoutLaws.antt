@@ -1,6 +1,6 @@
 -- What the calls use of the layout: cells lie in bounds and pairwise apart, a store changes the cell that it names and no other,
 -- and nothing past the units.
-use Prim.Native.Nat.{ℕ, zero, suc, _+_, _-_, _*_, _≤_, _<_, min}
+use Prim.Native.Nat.{ℕ, zero, suc, _+_, _-_, _≤_, _<_, min}
 use mathlib.Core.Path.{_≡_, refl, ap, sym, _∙_}
 use mathlib.Core.List.{List, _∷_, _++_}
 use mathlib.Core.Option.{Option, none, some}
@@ -9,8 +9,9 @@ use lib.ListN.{length, getD, take, drop, replicate, length-set, length-append, l
 use lib.Seq.{getD-set-same, getD-set-other, drop-set-lt, getD-take, getD-drop, getD-append-add, ext-getD, drop-at}
 use Rattle.model.specs.declared.Plan.{Plan}
 use Rattle.model.specs.Layout.{Copy, copyA, copyB, Cell, marker, byte, width, unitLength, offset, base, total, place, get, put, copyOf, fresh, formatted}
-use Rattle.model.specs.Marker.{OK, End, markerLeft}
-use Rattle.model.specs.Stores.{Store, store, cellLeft, stored}
+pub use Rattle.model.specs.Layout.{InUnit}
+use Rattle.model.specs.Marker.{OK, torn, End, completed, tornBy, markerLeft}
+use Rattle.model.specs.Stores.{Store, store, tornCell, stored}
 use Rattle.model.proofs.Compare.{below, above, order}
 use Rattle.model.proofs.RefusalLaws.{PlanOk}
 
@@ -18,12 +19,8 @@ use Rattle.model.proofs.RefusalLaws.{PlanOk}
 pub length-stored : (p : Plan) (image : List ℕ) (e : End) (o : Option Store) → length (stored p image e o) ≡ length image
 unfolding stored put
 length-stored p image e none = refl
-length-stored p image e (some s) = length-set image (place p (s .unit) (s .cell)) _
-
--- a cell of a unit of width w
-abbrev pub InUnit : ℕ → Cell → Type 0
-InUnit w marker = Unit
-InUnit w (byte c i) = i < w
+length-stored p image completed (some s) = length-set image (place p (s .unit) (s .cell)) _
+length-stored p image (tornBy m) (some s) = length-set image (place p (s .unit) (s .cell)) _
 
 -- two cells of one unit that differ
 abbrev pub Apart : Cell → Cell → Type 0
@@ -58,35 +55,10 @@ pub bytes-apart : (c : Copy) (i j : ℕ) → ¬ (j ≡ i) → Apart (byte c i) (
 bytes-apart copyA i j h = h
 bytes-apart copyB i j h = h
 
-pub offset-bound : (w : ℕ) (c : Cell) → InUnit w c → offset w c < unitLength w
-offset-bound w marker h = omega arith
-offset-bound w (byte copyA i) h = omega arith
-offset-bound w (byte copyB i) h = omega arith
-
-offset-apart : (w : ℕ) (c c′ : Cell) → InUnit w c → InUnit w c′ → Apart c c′ → ¬ (offset w c′ ≡ offset w c)
-offset-apart w marker marker f g h = absurd h
-offset-apart w marker (byte copyA i) f g h = omega arith
-offset-apart w marker (byte copyB i) f g h = omega arith
-offset-apart w (byte copyA i) marker f g h = omega arith
-offset-apart w (byte copyB i) marker f g h = omega arith
-offset-apart w (byte copyA i) (byte copyA j) f g h = omega arith
-offset-apart w (byte copyA i) (byte copyB j) f g h = omega arith
-offset-apart w (byte copyB i) (byte copyA j) f g h = omega arith
-offset-apart w (byte copyB i) (byte copyB j) f g h = omega arith
-
 -- a cell as format leaves it
 abbrev pub blank : Cell → ℕ
 blank marker = OK
 blank (byte c i) = 0
-
-blank-unit : (w : ℕ) (c : Cell) → InUnit w c → getD (OK ∷ replicate (2 * w) 0) (offset w c) 0 ≡ blank c
-blank-unit w marker h = refl
-blank-unit w (byte copyA i) h =
-    ap (λ (q : ℕ). getD {A = ℕ} (OK ∷ replicate (2 * w) 0) q 0) {x = 1 + i} {y = suc i} (omega arith)
-    ∙ getD-replicate {A = ℕ} (2 * w) i 0 0 (omega arith)
-blank-unit w (byte copyB i) h =
-    ap (λ (q : ℕ). getD {A = ℕ} (OK ∷ replicate (2 * w) 0) q 0) {x = 1 + w + i} {y = suc (w + i)} (omega arith)
-    ∙ getD-replicate {A = ℕ} (2 * w) (w + i) 0 0 (omega arith)
 
 -- image′ is image but for the part of unit u that the cell y is of
 pub record Near (p : Plan) (image image′ : List ℕ) (u : ℕ) (y : Cell) : Type 0 where
@@ -96,12 +68,49 @@ pub record Near (p : Plan) (image image′ : List ℕ) (u : ℕ) (y : Cell) : Ty
   pub own : (c : Cell) → InUnit (width p u) c → Elsewhere y c → get p image′ u c ≡ get p image u c
 
 module _ (p : Plan) (ok : PlanOk p) where
-  base-suc : (u : ℕ) → base p (suc u) ≡ base p u + unitLength (width p u)
+  pub offset-bound : (u : ℕ) (c : Cell) → InUnit (width p u) c → offset p u c < unitLength p u
+  offset-bound u marker h = omega arith
+  offset-bound u (byte copyA i) h = omega arith
+  offset-bound u (byte copyB i) h = omega arith
+
+  -- a unit has its marker at least
+  pub unit-some : (u : ℕ) → 0 < unitLength p u
+  unit-some u = offset-bound u marker tt
+
+  -- a whole copy lies in its unit
+  pub copy-bound : (u : ℕ) (c : Copy) → offset p u (byte c 0) + width p u ≤ unitLength p u
+  copy-bound u copyA = omega arith
+  copy-bound u copyB = omega arith
+
+  offset-apart : (u : ℕ) (c c′ : Cell) → InUnit (width p u) c → InUnit (width p u) c′ → Apart c c′
+      → ¬ (offset p u c′ ≡ offset p u c)
+  offset-apart u marker marker f g h = absurd h
+  offset-apart u marker (byte copyA i) f g h = omega arith
+  offset-apart u marker (byte copyB i) f g h = omega arith
+  offset-apart u (byte copyA i) marker f g h = omega arith
+  offset-apart u (byte copyB i) marker f g h = omega arith
+  offset-apart u (byte copyA i) (byte copyA j) f g h = omega arith
+  offset-apart u (byte copyA i) (byte copyB j) f g h = omega arith
+  offset-apart u (byte copyB i) (byte copyA j) f g h = omega arith
+  offset-apart u (byte copyB i) (byte copyB j) f g h = omega arith
+
+  -- past its marker a fresh unit is zeros
+  blank-at : (u q : ℕ) → ¬ (q ≡ 0) → q < unitLength p u → getD (OK ∷ replicate (unitLength p u - 1) 0) q 0 ≡ 0
+  blank-at u zero z h = absurd (z refl)
+  blank-at u (suc q) z h = getD-replicate {A = ℕ} (unitLength p u - 1) q 0 0 (omega arith)
+
+  blank-unit : (u : ℕ) (c : Cell) → InUnit (width p u) c
+      → getD (OK ∷ replicate (unitLength p u - 1) 0) (offset p u c) 0 ≡ blank c
+  blank-unit u marker h = refl
+  blank-unit u (byte c i) h =
+      blank-at u (offset p u (byte c i)) (offset-apart u marker (byte c i) tt h tt) (offset-bound u (byte c i) h)
+
+  base-suc : (u : ℕ) → base p (suc u) ≡ base p u + unitLength p u
   unfolding base
   base-suc u = refl
 
   -- a unit ends where a later one begins, or before
-  pub base-bound : (u v : ℕ) → u < v → base p u + unitLength (width p u) ≤ base p v
+  pub base-bound : (u v : ℕ) → u < v → base p u + unitLength p u ≤ base p v
   base-bound u zero h = omega arith
   base-bound u (suc v) h =
       elim (order u v) [
@@ -112,18 +121,18 @@ module _ (p : Plan) (ok : PlanOk p) where
       ]
 
   pub place-bound : (u n : ℕ) (c : Cell) → u < n → InUnit (width p u) c → place p u c < base p n
-  place-bound u n c h f = omega (arith, base-bound u n h, offset-bound (width p u) c f)
+  place-bound u n c h f = omega (arith, base-bound u n h, offset-bound u c f)
 
   place-apart : (u : ℕ) (c c′ : Cell) → InUnit (width p u) c → InUnit (width p u) c′ → Apart c c′
       → ¬ (place p u c′ ≡ place p u c)
-  place-apart u c c′ f g h e = offset-apart (width p u) c c′ f g h (omega arith)
+  place-apart u c c′ f g h e = offset-apart u c c′ f g h (omega arith)
 
   units-apart : (u v : ℕ) (c c′ : Cell) → ¬ (v ≡ u) → InUnit (width p u) c → InUnit (width p v) c′
       → ¬ (place p v c′ ≡ place p u c)
   units-apart u v c c′ h f g e =
       elim (order u v) [
-        | below l ↦ omega (arith, base-bound u v l, offset-bound (width p u) c f)
-        | above l ↦ omega (arith, base-bound v u (omega arith), offset-bound (width p v) c′ g)
+        | below l ↦ omega (arith, base-bound u v l, offset-bound u c f)
+        | above l ↦ omega (arith, base-bound v u (omega arith), offset-bound v c′ g)
       ]
 
   -- ---- a store of x in the cell c of unit u
@@ -155,12 +164,20 @@ module _ (p : Plan) (ok : PlanOk p) where
   module _ (image : List ℕ) (e : End) (u x : ℕ) (hu : u < p .count) where
     pub stored-near : (c : Cell) → InUnit (width p u) c → Near p image (stored p image e (some (store u c x))) u c
     unfolding stored
-    stored-near c h = put-near image u c (cellLeft e c (get p image u c) x) h hu
+    stored-near c h = go e
+      where
+        go : (e : End) → Near p image (stored p image e (some (store u c x))) u c
+        go completed = put-near image u c x h hu
+        go (tornBy m) = put-near image u c (tornCell m c (get p image u c) x) h hu
 
     pub stored-marker : total p ≤ length image
         → get p (stored p image e (some (store u marker x))) u marker ≡ markerLeft e (get p image u marker) x
     unfolding stored
-    stored-marker h = get-put-same image u marker (markerLeft e (get p image u marker) x) tt hu h
+    stored-marker h = go e
+      where
+        go : (e : End) → get p (stored p image e (some (store u marker x))) u marker ≡ markerLeft e (get p image u marker) x
+        go completed = get-put-same image u marker x tt hu h
+        go (tornBy m) = get-put-same image u marker (torn (get p image u marker) x m) tt hu h
 
   -- ---- a copy whose bytes are those of s
   pub copy-is : (image : List ℕ) (u : ℕ) (c : Copy) (s : List ℕ) → u < p .count → total p ≤ length image → length s ≡ width p u
@@ -173,8 +190,7 @@ module _ (p : Plan) (ok : PlanOk p) where
       w = width p u
 
       fits : (c : Copy) → min w (length image - place p u (byte c 0)) ≡ w
-      fits copyA = omega (arith, base-bound u (p .count) hu)
-      fits copyB = omega (arith, base-bound u (p .count) hu)
+      fits c = omega (arith, base-bound u (p .count) hu, copy-bound u c)
 
       offset-of : (c : Copy) (i : ℕ) → place p u (byte c 0) + i ≡ place p u (byte c i)
       offset-of copyA i = omega arith
@@ -207,10 +223,10 @@ module _ (p : Plan) (ok : PlanOk p) where
             ∙ fresh-get n u c l f
         | above l ↦
             let e : u ≡ n = omega arith in
-            ap (λ (q : ℕ). getD (fresh p n ++ OK ∷ replicate (2 * width p n) 0) q 0)
+            ap (λ (q : ℕ). getD (fresh p n ++ OK ∷ replicate (unitLength p n - 1) 0) q 0)
             (rw e (omega (arith, length-fresh n)))
-            ∙ getD-append-add (fresh p n) (OK ∷ replicate (2 * width p n) 0) (offset (width p n) c) 0
-            ∙ blank-unit (width p n) c (rw e at f)
+            ∙ getD-append-add (fresh p n) (OK ∷ replicate (unitLength p n - 1) 0) (offset p n c) 0
+            ∙ blank-unit n c (rw e at f)
       ]
 
   pub get-formatted : (image : List ℕ) (u : ℕ) (c : Cell) → u < p .count → InUnit (width p u) c

@@ -32,9 +32,11 @@ pub first-none : first [] ≡ 0
 unfolding first
 first-none = refl
 
-pub first-rest : (r : Refusal) (xs ys : List Refusal) → first xs ≡ first ys → first (r ∷ xs) ≡ first (r ∷ ys)
+-- two rows that begin alike
+pub first-behind : (rs xs ys : List Refusal) → first xs ≡ first ys → first (rs ++ xs) ≡ first (rs ++ ys)
 unfolding first
-first-rest r xs ys e = ap (λ t. cond (r .holds) (r .number) t) e
+first-behind [] xs ys e = e
+first-behind (r ∷ rs) xs ys e = ap (λ t. cond (r .holds) (r .number) t) (first-behind rs xs ys e)
 
 -- a row that refuses refuses the same with more behind it
 pub first-refused : (xs ys : List Refusal) → ¬ (first xs ≡ 0) → first (xs ++ ys) ≡ first xs
@@ -99,6 +101,15 @@ start-says p e =
     let h = first-past 0 (badCount p) _ e in
     record { count = h .0; widths = first-past 1 (badWidths p (p .count)) [] (h .1) .0 }
 
+start-fine : (p : Plan) → PlanOk p → startNumber p ≡ 0
+unfolding startNumber
+start-fine p ok = first-skip 1 _ _ (ok .count) ∙ first-skip 2 _ [] (ok .widths) ∙ first-none
+
+-- past a plan that is not refused
+pub plan-passed : (p : Plan) (rest : List Refusal) → startNumber p ≡ 0 → first (planRow p ++ rest) ≡ first rest
+unfolding startNumber
+plan-passed p rest e = first-passed (planRow p) rest refl e
+
 pub count-bounds : (p : Plan) → PlanOk p → (0 < p .count) × (p .count ≤ 8)
 unfolding badCount
 count-bounds p ok =
@@ -131,12 +142,13 @@ pub record Past (v : View) (rest : List Refusal) : Type 0 where
   pub more : first rest ≡ 0
 
 pub past : (v : View) (rest : List Refusal) → first (deviceRow v ++ rest) ≡ 0 → Past v rest
+unfolding startNumber
 past v rest e =
-    let h₁ = first-past 0 (badCount (v .plan)) _ e in
-    let h₂ = first-past 1 (badWidths (v .plan) (v .plan .count)) _ (h₁ .1) in
-    let h₃ = first-past 2 (v .short) _ (h₂ .1) in
+    let behind : List Refusal = 3 when v .short ∷ 4 when badJob (v .plan) (v .job) ∷ rest in
+    let z : startNumber (v .plan) ≡ 0 = first-front (planRow (v .plan)) behind e in
+    let h₃ = first-past 2 (v .short) _ (sym (plan-passed (v .plan) behind z) ∙ e) in
     let h₄ = first-past 3 (badJob (v .plan) (v .job)) _ (h₃ .1) in
-    record { plan = record { count = h₁ .0; widths = h₂ .0 }; long = h₃ .0; job = h₄ .0; more = h₄ .1 }
+    record { plan = start-says (v .plan) z; long = h₃ .0; job = h₄ .0; more = h₄ .1 }
 
 pub format-says : (v : View) → formatNumber v ≡ 0 → PlanOk (v .plan) × (v .short ≡ false)
 unfolding formatNumber
@@ -196,11 +208,15 @@ job-recovering p u n h l = or-false _ _ (lt-leb (p .count) u h) (lt-leb _ n l)
 module _ (v : View) (ok : PlanOk (v .plan)) (long : v .short ≡ false) where
   device-past : (rest : List Refusal) → badJob (v .plan) (v .job) ≡ false → first (deviceRow v ++ rest) ≡ first rest
   device-past rest e =
-      first-skip 1 _ _ (ok .count) ∙ first-skip 2 _ _ (ok .widths) ∙ first-skip 3 _ _ long ∙ first-skip 4 _ _ e
+      plan-passed (v .plan) _ (start-fine (v .plan) ok) ∙ first-skip 3 _ _ long ∙ first-skip 4 _ _ e
+
+  -- refusals 1 to 4 do not apply
+  pub device-fine : badJob (v .plan) (v .job) ≡ false → first (deviceRow v) ≡ 0
+  device-fine e = device-past [] e ∙ first-none
 
   pub cut-any : badJob (v .plan) (v .job) ≡ false → cutNumber v ≡ 0
   unfolding cutNumber
-  cut-any e = device-past [] e ∙ first-none
+  cut-any e = device-fine e
 
   module _ (e : v .job ≡ cold) where
     cold-fine : badJob (v .plan) (v .job) ≡ false
@@ -228,11 +244,6 @@ module _ (v : View) (ok : PlanOk (v .plan)) (long : v .short ≡ false) where
   unfolding stepNumber
   step-recovering u n e h l =
       device-past _ (rw e (job-recovering (v .plan) u n h l)) ∙ first-skip 5 _ [] (rw e) ∙ first-none
-
--- past a plan that is not refused
-pub plan-passed : (p : Plan) (rest : List Refusal) → startNumber p ≡ 0 → first (planRow p ++ rest) ≡ first rest
-unfolding startNumber
-plan-passed p rest e = first-passed (planRow p) rest refl e
 
 foreign-alike : (m m′ : ℕ → ℕ) (k : ℕ) → ((u : ℕ) → u < k → m u ≡ m′ u) → anyForeign m k ≡ anyForeign m′ k
 unfolding anyForeign
@@ -267,6 +278,6 @@ module _ {v v′ : View} (a : Alike v v′) where
         | above l ↦
             let six : leb (v′ .plan .count) u ≡ true = le-leb (v′ .plan .count) u l in
             rw (a .plan, a .short, a .job)
-            (first-rest _ _ _ (first-rest _ _ _ (first-rest _ _ _ (first-rest _ _ _ (first-rest _ _ _
-            (first-stop 6 _ _ six ∙ sym (first-stop 6 _ _ six)))))))
+            (first-behind (deviceRow v′ ++ (5 when not (isReady (v′ .job)) ∷ [])) _ _
+            (first-stop 6 _ _ six ∙ sym (first-stop 6 _ _ six)))
       ]

@@ -135,10 +135,12 @@ phaseAfter p image (Recovering u made d) =
 
 -- ---- The calls.
 -- "start's refusal returns k = 0, all widths 0, Cold, zero payload"
+abbrev pub noPlan : Plan
+noPlan = record { count = 0; widths = replicate 8 0 }
+
 abbrev pub startAnswer : ℕ → Plan → Answer
 startAnswer zero p = record { number = 0; device = asStarted p }
-startAnswer (suc n) p =
-    record { number = suc n; device = asStarted (record { count = 0; widths = replicate 8 0 }) }
+startAnswer (suc n) p = record { number = suc n; device = asStarted noPlan }
 
 unfoldable pub start : Plan → Answer
 start p = startAnswer (startNumber p) p

@@ -25,9 +25,12 @@ pub data Result : Type 0 where
   -- number and drive
   drives : ℕ → ℕ → Result
 
+abbrev pub planned : ℕ → List ℕ → Plan
+planned count widths = record { count = count; widths = widths }
+
 -- "format over an image of exactly the units' length"; what stood there before is no matter
 abbrev planOf : List ℕ → Plan
-planOf widths = record { count = length widths; widths = take 8 (widths ++ replicate 8 0) }
+planOf widths = planned (length widths) (take 8 (widths ++ replicate 8 0))
 
 abbrev formattedBy : Plan → Outcome
 formattedBy p = calls.format (calls.start p .device) (replicate (total p) 7)

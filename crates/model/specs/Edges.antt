@@ -16,6 +16,7 @@ use Rattle.model.specs.Calls.{Device, Answer, Outcome, outcome, view, ze
 use Rattle.model.specs.Calls as calls
 use Rattle.model.specs.Ledger.{Call, begin, step, cut, wake, Ledger, opening, tells, after}
 use Rattle.model.specs.PowerCut.{call}
+use Rattle.model.specs.Cases.{planned}
 
 -- ---- Refusals. A row has a situation, in which whatever a later row mends is still wrong, and the number of each call there.
 pub record Numbers : Type 0 where
@@ -56,7 +57,7 @@ abbrev at : ℕ → ℕ → Phase → List ℕ → ℕ → List ℕ → Situatio
 at k w phase image u payload =
     record {
       device = record {
-        plan = record { count = k; widths = 2 ∷ w ∷ 1 ∷ replicate 5 0 };
+        plan = planned k (2 ∷ w ∷ 1 ∷ replicate 5 0);
         payload = zeroPayload;
         phase = phase;
         stores = 7;
@@ -127,7 +128,7 @@ EveryRefusal = map (λ (r : Row). numbersIn (r .situation)) refusals ≡ map (λ
 
 -- ---- Whole outcomes: number, device, every byte. The plan has the widths 2 and 1, the payload is 5 6 and zeros.
 abbrev pub plan21 : Plan
-plan21 = record { count = 2; widths = 2 ∷ 1 ∷ replicate 6 0 }
+plan21 = planned 2 (2 ∷ 1 ∷ replicate 6 0)
 
 abbrev held : List ℕ
 held = 5 ∷ 6 ∷ replicate 254 0
@@ -243,11 +244,11 @@ abbrev answered : ℕ → ℕ → List ℕ → Answer
 answered n k widths =
     record {
       number = n;
-      device = record { plan = record { count = k; widths = widths }; payload = replicate 256 0; phase = Cold; stores = 0 };
+      device = record { plan = planned k widths; payload = replicate 256 0; phase = Cold; stores = 0 };
     }
 
 abbrev start : ℕ → List ℕ → Answer
-start k widths = calls.start (record { count = k; widths = widths })
+start k widths = calls.start (planned k widths)
 
 abbrev pub EveryStart : Type 0
 EveryStart =

@@ -1,6 +1,6 @@
 -- Document 01, 'Plan and image': where a plan's units, their markers and their copies lie.
 -- Only this file says at which image byte a cell stands. `get`, `put`, `copyOf` and `formatted` are all that the calls use of it.
-use Prim.Native.Nat.{ℕ, zero, suc, _+_, _*_}
+use Prim.Native.Nat.{ℕ, zero, suc, _+_, _-_, _*_, _<_}
 use mathlib.Core.List.{List, [], _∷_, _++_}
 use lib.ListN.{getD, set, take, drop, replicate}
 use Rattle.model.specs.declared.Plan.{Plan}
@@ -17,26 +17,31 @@ pub data Cell : Type 0 where
   marker : Cell
   byte : Copy → ℕ → Cell
 
--- ".. 1 + 2w bytes."
-abbrev pub unitLength : ℕ → ℕ
-unitLength w = 1 + 2 * w
+-- a cell that a unit of width w has
+abbrev pub InUnit : ℕ → Cell → Type 0
+InUnit w marker = Unit
+InUnit w (byte c i) = i < w
 
-abbrev pub offset : ℕ → Cell → ℕ
-offset w marker = 0
-offset w (byte copyA i) = 1 + i
-offset w (byte copyB i) = 1 + w + i
+-- ".. 1 + 2w bytes.": of unit u
+abbrev pub unitLength : Plan → ℕ → ℕ
+unitLength p u = 1 + 2 * width p u
+
+abbrev pub offset : Plan → ℕ → Cell → ℕ
+offset p u marker = 0
+offset p u (byte copyA i) = 1 + i
+offset p u (byte copyB i) = 1 + width p u + i
 
 -- "Units lie one after another from image byte 0."
 unfoldable pub base : Plan → ℕ → ℕ
 base p zero = 0
-base p (suc u) = base p u + unitLength (width p u)
+base p (suc u) = base p u + unitLength p u
 
 -- "all units together"
 abbrev pub total : Plan → ℕ
 total p = base p (p .count)
 
 abbrev pub place : Plan → ℕ → Cell → ℕ
-place p u c = base p u + offset (width p u) c
+place p u c = base p u + offset p u c
 
 unfoldable pub get : Plan → List ℕ → ℕ → Cell → ℕ
 get p image u c = getD image (place p u c) 0
@@ -51,7 +56,7 @@ copyOf p image u c = take (width p u) (drop (place p u (byte c 0)) image)
 -- "zeros in all units, every marker 1": the first n units
 unfoldable pub fresh : Plan → ℕ → List ℕ
 fresh p zero = []
-fresh p (suc n) = fresh p n ++ (OK ∷ replicate (2 * width p n) 0)
+fresh p (suc n) = fresh p n ++ (OK ∷ replicate (unitLength p n - 1) 0)
 
 -- "Bytes after them are never changed."
 unfoldable pub formatted : Plan → List ℕ → List ℕ

@@ -6,7 +6,7 @@ use lib.ListN.{getD}
 use Rattle.model.specs.declared.Plan.{Plan}
 use Rattle.model.specs.declared.Direction.{Direction}
 use Rattle.model.specs.declared.Direction.the-variants.{AToB, BToA}
-use Rattle.model.specs.Marker.{OK, A, B, End, completed, tornBy, markerLeft}
+use Rattle.model.specs.Marker.{OK, A, B, torn, End, completed, tornBy}
 use Rattle.model.specs.Layout.{Copy, copyA, copyB, Cell, marker, byte, width, get, put}
 
 -- one store: its place, which is a cell of a unit, and its byte
@@ -45,13 +45,13 @@ cleanupStores p image u d =
     copying u (target d) (λ i. get p image u (byte (source d) i)) (width p u) 0 ++ (store u marker OK ∷ [])
 
 -- "A torn data byte is m." A torn marker goes bit by bit (specs/Marker.antt).
-abbrev pub cellLeft : End → Cell → ℕ → ℕ → ℕ
-cellLeft e marker old new = markerLeft e old new
-cellLeft completed (byte c i) old new = new
-cellLeft (tornBy m) (byte c i) old new = m
+abbrev pub tornCell : ℕ → Cell → ℕ → ℕ → ℕ
+tornCell m marker old new = torn old new m
+tornCell m (byte c i) old new = m
 
 -- the image after a store, if there is one: "No other byte is touched."
 unfoldable pub stored : Plan → List ℕ → End → Option Store → List ℕ
 stored p image e none = image
-stored p image e (some s) =
-    put p image (s .unit) (s .cell) (cellLeft e (s .cell) (get p image (s .unit) (s .cell)) (s .value))
+stored p image completed (some s) = put p image (s .unit) (s .cell) (s .value)
+stored p image (tornBy m) (some s) =
+    put p image (s .unit) (s .cell) (tornCell m (s .cell) (get p image (s .unit) (s .cell)) (s .value))

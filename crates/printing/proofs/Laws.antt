@@ -58,7 +58,7 @@ bytes-more xs i h = sym (bytes-snoc (take i xs) (getD xs i 0)) ∙ ap bytesText 
 
 -- a unit of an accepted plan lies in an image that is long enough
 pub unit-fits : (p : Plan) (size u : ℕ) → startNumber p ≡ 0 → total p ≤ size → u < p .count
-    → (width p u ≤ 256) × (base p u + unitLength (width p u) ≤ size)
+    → (width p u ≤ 256) × (base p u + unitLength p u ≤ size)
 unit-fits p size u e long h =
     let ok = start-says p e in
     (width-bounds p ok u h .1, omega (arith, base-bound p ok u (p .count) h))
@@ -71,7 +71,7 @@ pub record Sized (image : List ℕ) (b w : ℕ) : Type 0 where
   pub most : w ≤ 256
 
 pub sized : (image : List ℕ) (p : Plan) (u b w : ℕ) → b ≡ base p u → w ≡ width p u
-    → (width p u ≤ 256) × (base p u + unitLength (width p u) ≤ length image) → Sized image b w
+    → (width p u ≤ 256) × (base p u + unitLength p u ≤ length image) → Sized image b w
 sized image p u b w e g f =
     record {
       log = part-length image b 1 (omega arith);

@@ -4,15 +4,15 @@ use mathlib.Core.Path.{_≡_, refl, ap, sym, _∙_}
 use mathlib.Core.List.{List, [], _∷_, _++_}
 use mathlib.Core.Bool.{Bool, true, false, not}
 use native.Mathlib.Omega.{arith}
-use lib.Dec.{eqb}
+use lib.Dec.{eqb, leb}
 use lib.ListN.{length, getD}
 use borrow.Author.Tests.{eq-eqb, ne-eqb}
 use Rattle.model.specs.declared.Plan.{Plan}
 use Rattle.model.specs.declared.Phase.{Phase}
 use Rattle.model.specs.Marker.{OK}
 use Rattle.model.specs.Layout.{marker, width, unitLength, base, get}
-use Rattle.model.specs.Refusals.{View, _when_, Refusal, first, deviceRow, readNumber, beginNumber}
-use Rattle.model.proofs.RefusalLaws.{first-skip, first-rest, first-front, first-refused, first-passed}
+use Rattle.model.specs.Refusals.{View, isReady, _when_, Refusal, first, deviceRow, readNumber, beginNumber}
+use Rattle.model.proofs.RefusalLaws.{first-skip, first-behind, first-front, first-refused, first-passed}
 use Rattle.model.proofs.LayoutLaws.{base-bound}
 use Rattle.layout.specs.Seen.{seen}
 use Rattle.mirror.specs.Placed.{Live}
@@ -24,8 +24,8 @@ pub read-row : (v : View) (u size : ℕ) → size ≡ width (v .plan) u → begi
 unfolding beginNumber readNumber
 read-row v u size e =
     rw (eq-eqb size (width (v .plan) u) e)
-    (first-rest _ _ _ (first-rest _ _ _ (first-rest _ _ _ (first-rest _ _ _ (first-rest _ _ _ (first-rest _ _ _
-    (first-skip 7 false _ refl)))))))
+    (first-behind (deviceRow v ++ (5 when not (isReady (v .job)) ∷ 6 when leb (v .plan .count) u ∷ [])) _ _
+    (first-skip 7 false _ refl))
 
 -- ---- refusals 1 to 4, and 5 where the phase is wrong, for an image of n bytes; k is the code's number, t the test of the phase
 module _ (p : Plan) (phase : Phase) (n : ℕ) where
@@ -61,7 +61,7 @@ module _ (p : Plan) (phase : Phase) (image : List ℕ) where
   marker-good u b e h = rw (eq-eqb (get p image u marker) OK (sym (marker-at p image u b e) ∙ h))
 
   -- the whole unit lies in the image
-  pub unit-inside : Live p phase image → (u : ℕ) → u < p .count → base p u + unitLength (width p u) ≤ length image
+  pub unit-inside : Live p phase image → (u : ℕ) → u < p .count → base p u + unitLength p u ≤ length image
   unit-inside e u h =
       let r = room p phase image e in
       omega (arith, base-bound p (r .ok) u (p .count) h, r .long)

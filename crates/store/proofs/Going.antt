@@ -13,11 +13,11 @@ use Rattle.model.specs.declared.Phase.{Phase}
 use Rattle.model.specs.declared.Phase.the-variants.{Cold, Ready, Writing, Recovering}
 use Rattle.model.specs.Marker.{OK, completed}
 use Rattle.model.specs.Layout.{marker, width, total, get}
-use Rattle.model.specs.Refusals.{isCold, isReady, badJob, writeTotal, cleanupTotal, _when_, first, deviceRow, cutNumber, stepNumber}
+use Rattle.model.specs.Refusals.{isCold, isReady, badJob, writeTotal, cleanupTotal, _when_, first, deviceRow, stepNumber}
 use Rattle.model.specs.Stores.{Store, stored}
 use Rattle.model.specs.Calls.{Device, Outcome, outcome, asStepped, counted, jobOf, viewOf, unlessRefused, next, imageAfter, cleanupAmong, phaseAfter, step}
 use Rattle.model.proofs.Compare.{equal, differ, same}
-use Rattle.model.proofs.RefusalLaws.{first-skip, first-stop, first-none, first-refused, first-passed, false-or, job-writing, job-recovering, cut-any}
+use Rattle.model.proofs.RefusalLaws.{first-skip, first-stop, first-none, first-refused, first-passed, false-or, job-writing, job-recovering, device-fine}
 use Rattle.model.proofs.StoreLaws.{write-goes-on, write-ends, cleanup-goes-on, cleanup-ends}
 use Rattle.layout.specs.Seen.{seen}
 use Rattle.mirror.specs.Placed.{Live}
@@ -60,11 +60,10 @@ module _ (p : Plan) (image : List ℕ) where
 -- image′ and phase′ are what the code comes to
 pub live-on : (p : Plan) (phase phase′ : Phase) (image image′ : List ℕ) (o : Option Store) → image′ ≡ stored p image completed o
     → phase′ ≡ phaseAfter p image′ phase → Live p phase image → Live p phase′ image′
-unfolding cutNumber
 live-on p phase phase′ image image′ o ei ep h =
     let r = room p phase image′ (live-stored p phase image image′ completed o ei h) in
     rw ep
-    (cut-any (seen p (phaseAfter p image′ phase) (length image′)) (r .ok) (le-ltb (length image′) (total p) (r .long))
+    (device-fine (seen p (phaseAfter p image′ phase) (length image′)) (r .ok) (le-ltb (length image′) (total p) (r .long))
     (still-fine p image′ phase (r .job)))
 
 -- ---- steps in a row

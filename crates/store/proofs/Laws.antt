@@ -6,7 +6,7 @@ use mathlib.Core.Option.{Option}
 use mathlib.Core.Bool.{not}
 use native.Mathlib.Omega.{arith}
 use lib.Dec.{leb}
-use lib.ListN.{length, take, drop, replicate}
+use lib.ListN.{length, take, drop}
 use borrow.Author.Tests.{leb-false}
 use Rattle.store.specs.declared.Device.{Device}
 use Rattle.store.specs.declared.Answer.{Answer}
@@ -16,12 +16,14 @@ use Rattle.model.specs.declared.Inspection.the-variants.{Refused}
 use Rattle.model.specs.declared.Phase.{Phase}
 use Rattle.model.specs.declared.Phase.the-variants.{Cold}
 use Rattle.model.specs.Marker.{End}
-use Rattle.model.specs.Layout.{copyA, width, unitLength, base, copyOf}
+use Rattle.model.specs.Layout.{copyA, width, copyOf}
 use Rattle.model.specs.Refusals.{isReady, first, deviceRow, inspectNumber, readNumber, beginNumber}
 use Rattle.model.specs.Stores.{Store, stored}
-use Rattle.model.specs.Calls.{jobOf, viewOf, view, Outcome, unlessRefused, startAnswer, partUnlessRefused, cleanupFrom, inspection, inspect}
+use Rattle.model.specs.Calls.{jobOf, viewOf, view, Outcome, unlessRefused, noPlan, startAnswer, partUnlessRefused, cleanupFrom, inspection, inspect}
 use Rattle.model.proofs.RefusalLaws.{first-past, past, begin-says, width-bounds}
-use Rattle.model.proofs.LayoutLaws.{length-stored}
+use Rattle.model.proofs.LayoutLaws.{copy-bound, length-stored}
+use Rattle.layout.specs.declared.Parts.{Parts}
+use Rattle.layout.specs.Parts.{partsOf}
 use Rattle.mirror.specs.Placed.{Live}
 use Rattle.mirror.proofs.Laws.{room}
 use Rattle.refusal.proofs.Laws.{live, unit-inside}
@@ -41,14 +43,20 @@ accepted r left d image k (suc n) o e z g = absurd (omega arith)
 -- ---- what a device and its image have
 module _ (p : Plan) (phase : Phase) (image : List ℕ) where
   -- what an accepted read and an accepted begin have
-  pub read-inside : (k u : ℕ) → k ≡ readNumber (viewOf p phase image) u → k ≡ 0
-      → base p u + unitLength (width p u) ≤ length image
+  pub read-inside : (k u : ℕ) (q : Parts) → q ≡ partsOf p u → k ≡ readNumber (viewOf p phase image) u → k ≡ 0
+      → q .base + q .a + width p u ≤ length image
   unfolding readNumber
-  read-inside k u e z =
+  read-inside k u q eq e z =
       let n : first (deviceRow (viewOf p phase image) ++ _) ≡ 0 = sym e ∙ z in
       let h₅ = first-past 4 (not (isReady (jobOf phase))) _ (past (viewOf p phase image) _ n .more) in
       let h₆ = first-past 5 (leb (p .count) u) _ (h₅ .1) in
-      unit-inside p phase image (live p phase image k _ e z) u (leb-false (p .count) u (h₆ .0))
+      let l = live p phase image k _ e z in
+      omega (
+        arith,
+        ap (λ (t : Parts). t .base + t .a) eq,
+        copy-bound p (room p phase image l .ok) u copyA,
+        unit-inside p phase image l u (leb-false (p .count) u (h₆ .0)),
+      )
 
   pub begin-narrow : (k u : ℕ) (payload : List ℕ) → k ≡ beginNumber (viewOf p phase image) u (length payload) → k ≡ 0
       → length payload ≤ 256
@@ -59,13 +67,12 @@ module _ (p : Plan) (phase : Phase) (image : List ℕ) where
       omega (arith, began .size, width-bounds p (r .ok) u (began .unit) .1)
 
   -- the part that read hands out
-  pub copy-part : (u b w : ℕ) → b ≡ base p u → w ≡ width p u
-      → take ((b + 1 + w) - (b + 1)) (drop (b + 1) image) ≡ copyOf p image u copyA
+  pub copy-part : (u w : ℕ) (q : Parts) → q ≡ partsOf p u → w ≡ width p u
+      → take ((q .base + q .a + w) - (q .base + q .a)) (drop (q .base + q .a) image) ≡ copyOf p image u copyA
   unfolding copyOf
-  copy-part u b w eb ew =
-      let size : (b + 1 + w) - (b + 1) ≡ width p u = omega arith in
-      let from : b + 1 ≡ base p u + (1 + 0) = omega arith in
-      ap₂ (λ (n i : ℕ). take n (drop i image)) size from
+  copy-part u w q eq ew =
+      let size : (q .base + q .a + w) - (q .base + q .a) ≡ width p u = omega arith in
+      ap₂ (λ (n i : ℕ). take n (drop i image)) size (ap (λ (t : Parts). t .base + t .a) eq)
 
   -- also after a store
   pub live-stored : (image′ : List ℕ) (e : End) (o : Option Store) → image′ ≡ stored p image e o → Live p phase image
@@ -76,7 +83,7 @@ module _ (p : Plan) (phase : Phase) (image : List ℕ) where
 
 -- ---- start: the code's device is that of the plan none, which is all zeros, or of the plan given
 pub start-refused : (p : Plan) (d : Device) (k n : ℕ) → k ≡ n → ¬ (k ≡ 0)
-    → modelled d ≡ blanked (record { count = 0; widths = replicate 8 0 }) Cold 0
+    → modelled d ≡ blanked noPlan Cold 0
     → Starts (record { number = k; device = d }) (startAnswer n p)
 start-refused p d k zero e h is = absurd (h e)
 start-refused p d k (suc n) e h is = record { number = e; device = is }

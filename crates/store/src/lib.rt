@@ -8,8 +8,8 @@ ghost use Rattle.model.specs.Refusals.{readNumber};
 ghost use Rattle.model.specs.Calls.{view, padded, counted, start, format, begin, step, wake, cut, read, inspect};
 ghost use Rattle.store.specs.Modelled.{modelled, blanked, held, answer, Gives, Starts};
 ghost use Rattle.store.specs.Steps.{steps};
-use layout::base_of;
 use layout::device_number;
+use layout::parts_of;
 use layout::plan_number;
 use layout::width_of;
 use mirror::cleanup_from;
@@ -348,7 +348,8 @@ impl Device {
         if number != 0 {
             return &image[..0];
         }
-        let start = base_of(plan, unit) + 1;
+        let parts = parts_of(plan, unit);
+        let start = parts.base + parts.a;
         let end = start + (width_of(plan, unit) as usize);
         &image[start..end]
     }

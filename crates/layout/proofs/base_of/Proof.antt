@@ -17,9 +17,6 @@ abbrev μ-loop : tie.MeasureT-loop
 loop-holds : tie.Need-loop-holds Inv-loop μ-loop
 loop-holds c = (omega arith, sym (base-none (c .args .plan)), omega arith)
 
-width-of-requires : tie.Need-width-of-requires Inv-loop μ-loop
-width-of-requires c κs = search needs
-
 unit-length-requires : tie.Need-unit-length-requires Inv-loop μ-loop
 unit-length-requires c κs = search needs
 
@@ -33,8 +30,8 @@ loop-less : tie.Need-loop-less Inv-loop μ-loop
 loop-less c = search needs
 
 loop-again : tie.Need-loop-again Inv-loop μ-loop
-loop-again c = let i = c .before .before .before .loop .i in
-    omega (arith, base-more (c .before .before .before .before .args .plan) i, c .unit-length .ensures .0, c .unit-length .ensures .1, c .before .width-of .ensures)
+loop-again c = let i = c .before .before .loop .i in
+    omega (arith, base-more (c .before .before .before .args .plan) i, c .unit-length .ensures .0, c .unit-length .ensures .1)
 
 returns : tie.Need-returns Inv-loop μ-loop
 returns c = (c .before .loop .inv .1 ∙ ap (base (c .before .before .args .plan)) (omega arith), omega arith)
@@ -46,7 +43,6 @@ base-of-spec =
     Inv-loop
     μ-loop
     loop-holds
-    width-of-requires
     unit-length-requires
     add-sum
     add-i

@@ -86,7 +86,7 @@ loop-again c =
       omega arith,
       l .inv .2,
       widths-more p (l .i) (l .inv .3) (width-fine p (l .i) _ w (λ z. absurd (omega (arith, c .before .before .if3 .left, z))) (omega (arith, c .before .if4 .left))),
-      omega (arith, more, c .unit-length .ensures .0, w),
+      omega (arith, more, c .unit-length .ensures .0),
       omega (arith, c .unit-length .ensures .1),
     )
 

@@ -8,7 +8,7 @@ use Rattle.model.specs.Layout.{marker, get}
 use Rattle.model.specs.Marker.{isForeign}
 use Rattle.model.specs.Refusals.{anyForeign}
 use Rattle.model.proofs.RefusalLaws.{count-bounds}
-use Rattle.model.proofs.LayoutLaws.{base-bound}
+use Rattle.model.proofs.LayoutLaws.{unit-some, base-bound}
 use Rattle.mirror.proofs.Search.{foreign-found, foreign-passed, foreign-none}
 use Rattle.mirror.proofs.any_foreign.Statement.{statement}
 use Rattle.mirror.proofs.any_foreign.Tie as tie
@@ -32,7 +32,7 @@ base-of-requires c κs = search needs
 shared-slice-read-classify : tie.Need-shared-slice-read-classify Inv-loop μ-loop
 shared-slice-read-classify c = let a = c .before .before .before .before .before in
     let h = c .before .before .before .loop in
-    omega (arith, base-bound (a .args .plan) (a .pre .0) (h .units - 1) (a .args .plan .count) (omega (arith, h .inv .0, c .before .before .loop-test .taken)), a .pre .1, c .before .base-of .ensures .0)
+    omega (arith, unit-some (a .args .plan) (a .pre .0) (h .units - 1), base-bound (a .args .plan) (a .pre .0) (h .units - 1) (a .args .plan .count) (omega (arith, h .inv .0, c .before .before .loop-test .taken)), a .pre .1, c .before .base-of .ensures .0)
 
 classify-requires : tie.Need-classify-requires Inv-loop μ-loop
 classify-requires c κs = search needs

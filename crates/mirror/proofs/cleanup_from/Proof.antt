@@ -5,7 +5,7 @@ use denote.Ref.{now}
 use Prim.Native.Nat.{_-_}
 use mathlib.Core.Path.{_≡_, refl, sym, ap, _∙_}
 use Rattle.model.specs.declared.Phase.the-variants.{Recovering}
-use Rattle.model.proofs.LayoutLaws.{base-bound}
+use Rattle.model.proofs.LayoutLaws.{unit-some, base-bound}
 use Rattle.layout.proofs.Laws.{base-more}
 use Rattle.mirror.proofs.Search.{search-skip, search-stop, search-end}
 use Rattle.model.specs.Layout.{base}
@@ -27,7 +27,7 @@ loop-holds c = (c .base-of .ensures .0, refl)
 
 shared-slice-read-marker : tie.Need-shared-slice-read-marker Inv-loop μ-loop
 shared-slice-read-marker c = let p = c .before .before .before .before .before .args .plan in
-    omega (arith, base-bound p (c .before .before .before .before .before .pre .0) (c .before .before .loop .unit) (p .count) (c .before .loop-test .taken), c .before .before .before .before .before .pre .1)
+    omega (arith, unit-some p (c .before .before .before .before .before .pre .0) (c .before .before .loop .unit), base-bound p (c .before .before .before .before .before .pre .0) (c .before .before .loop .unit) (p .count) (c .before .loop-test .taken), c .before .before .before .before .before .pre .1)
 
 direction-of-requires : tie.Need-direction-of-requires Inv-loop μ-loop
 direction-of-requires c κs = search needs
@@ -39,15 +39,12 @@ returns c = let a = c .before .before .before .before .before .before .before .a
     ∙ sym (search-stop (a .plan) (now (a .image)) _ _ (r .loop .inv .0) (c .before .before .before .loop-test .taken) (c .before .if1 .taken))
     ∙ r .loop .inv .1
 
-width-of-requires : tie.Need-width-of-requires Inv-loop μ-loop
-width-of-requires c κs = search needs
-
 unit-length-requires : tie.Need-unit-length-requires Inv-loop μ-loop
 unit-length-requires c κs = search needs
 
 add-at : tie.Need-add-at Inv-loop μ-loop
-add-at c = let p = c .before .before .before .before .before .before .before .before .args .plan in
-    omega (arith, base-bound p (c .before .before .before .before .before .before .before .before .pre .0) (c .before .before .before .before .before .loop .unit) (p .count) (c .before .before .before .before .loop-test .taken), c .before .before .before .before .before .before .before .before .pre .1, c .unit-length .ensures .0, c .before .width-of .ensures)
+add-at c = let p = c .before .before .before .before .before .before .before .args .plan in
+    omega (arith, base-bound p (c .before .before .before .before .before .before .before .pre .0) (c .before .before .before .before .loop .unit) (p .count) (c .before .before .before .loop-test .taken), c .before .before .before .before .before .before .before .pre .1, c .unit-length .ensures .0)
 
 add-unit : tie.Need-add-unit Inv-loop μ-loop
 add-unit c = search needs
@@ -56,10 +53,10 @@ loop-less : tie.Need-loop-less Inv-loop μ-loop
 loop-less c = search needs
 
 loop-again : tie.Need-loop-again Inv-loop μ-loop
-loop-again c = let a = c .before .before .before .before .before .before .before .before .args in
-    let r = c .before .before .before .before .before in (
-      omega (arith, base-more (a .plan) (r .loop .unit), r .loop .inv .0, c .unit-length .ensures .0, c .before .width-of .ensures),
-      search-skip (a .plan) (now (a .image)) _ _ (r .loop .inv .0) (c .before .before .before .before .loop-test .taken) (c .before .before .if1 .left) ∙ r .loop .inv .1,
+loop-again c = let a = c .before .before .before .before .before .before .before .args in
+    let r = c .before .before .before .before in (
+      omega (arith, base-more (a .plan) (r .loop .unit), r .loop .inv .0, c .unit-length .ensures .0),
+      search-skip (a .plan) (now (a .image)) _ _ (r .loop .inv .0) (c .before .before .before .loop-test .taken) (c .before .if1 .left) ∙ r .loop .inv .1,
     )
 
 returns-2 : tie.Need-returns-2 Inv-loop μ-loop
@@ -77,7 +74,6 @@ cleanup-from-spec =
     shared-slice-read-marker
     direction-of-requires
     returns
-    width-of-requires
     unit-length-requires
     add-at
     add-unit

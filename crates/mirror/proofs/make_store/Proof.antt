@@ -3,7 +3,7 @@ use mathlib.Core.Path.{_∙_}
 use denote.Ref.{now}
 use borrow.Author.Needs.{needs}
 use Rattle.model.specs.Marker.{completed}
-use Rattle.mirror.proofs.Laws.{no-store, store-made}
+use Rattle.mirror.proofs.Laws.{room, no-store, store-made}
 use Rattle.mirror.proofs.make_store.Statement.{statement}
 use Rattle.mirror.proofs.make_store.Tie as tie
 
@@ -14,7 +14,7 @@ same-length : tie.Need-same-length
 same-length c = search needs
 
 returns : tie.Need-returns
-returns c = no-store (c .before .before .before .before .before .args .plan) (now (c .before .before .before .before .before .args .image)) _ _ (c .before .next-store .ensures .is) completed (c .if1 .taken)
+returns c = no-store (c .before .before .before .before .before .args .plan) (now (c .before .before .before .before .before .args .image)) _ _ (c .before .next-store .ensures .is) (room (c .before .before .before .before .before .args .plan) (c .before .before .before .before .before .args .phase) (now (c .before .before .before .before .before .args .image)) (c .before .before .before .before .before .pre .0) .ok) completed (c .if1 .taken)
 
 store-at-requires : tie.Need-store-at-requires
 store-at-requires c κs = let n = c .before .before .next-store .ensures in (n .inside (c .before .if1 .left), n .long)

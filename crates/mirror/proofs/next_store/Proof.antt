@@ -1,7 +1,7 @@
 -- `mirror::next_store` meets its contract, by the phase.
 use denote.Ref.{now}
 use borrow.Author.Needs.{needs}
-use Rattle.mirror.proofs.Laws.{chosen-comes, none-comes, work-writing, work-recovering}
+use Rattle.mirror.proofs.Laws.{chosen-comes, none-comes, work-writing, work-recovering, room}
 use Rattle.model.specs.Calls.{next}
 use Rattle.mirror.proofs.next_store.Statement.{statement}
 use Rattle.mirror.proofs.next_store.Tie as tie
@@ -9,14 +9,14 @@ use Rattle.mirror.proofs.next_store.Tie as tie
 enum-told : tie.Need-enum-told
 enum-told c = search needs
 
-place-requires : tie.Need-place-requires
-place-requires c κs = search needs
+nowhere-requires : tie.Need-nowhere-requires
+nowhere-requires c κs = search needs
 
 enum-told-2 : tie.Need-enum-told-2
 enum-told-2 c = search needs
 
-place-requires-2 : tie.Need-place-requires-2
-place-requires-2 c κs = search needs
+nowhere-requires-2 : tie.Need-nowhere-requires-2
+nowhere-requires-2 c κs = search needs
 
 enum-known-phase : tie.Need-enum-known-phase
 enum-known-phase c = search needs
@@ -24,7 +24,7 @@ enum-known-phase c = search needs
 write-store-requires : tie.Need-write-store-requires
 write-store-requires c κs = let a = c .before .before .before .before .before .args in
     let w = work-writing (a .plan) (a .phase) (now (a .image)) _ _ (c .before .before .before .before .before .pre .0) (c .before .phase .given .1) in
-    (w .narrow, w .made, c .before .before .before .before .before .pre .1)
+    (room (a .plan) (a .phase) (now (a .image)) (c .before .before .before .before .before .pre .0) .ok, w .narrow, w .made, c .before .before .before .before .before .pre .1)
 
 enum-known-phase-2 : tie.Need-enum-known-phase-2
 enum-known-phase-2 c = search needs
@@ -32,15 +32,15 @@ enum-known-phase-2 c = search needs
 cleanup-store-requires : tie.Need-cleanup-store-requires
 cleanup-store-requires c κs = let a = c .before .before .before .before .before .args in
     let w = work-recovering (a .plan) (a .phase) (now (a .image)) _ _ _ (c .before .before .before .before .before .pre .0) (c .before .phase2 .given .1) in
-    (w .span, w .made)
+    (room (a .plan) (a .phase) (now (a .image)) (c .before .before .before .before .before .pre .0) .ok, w .span, w .made)
 
 returns : tie.Need-returns
 unfolding next
-returns c = none-comes _ _ _ (rw (c .before .enum-told .given .1)) _ (c .place .ensures)
+returns c = none-comes _ _ _ (rw (c .before .enum-told .given .1)) _ (c .nowhere .ensures)
 
 returns-2 : tie.Need-returns-2
 unfolding next
-returns-2 c = none-comes _ _ _ (rw (c .before .enum-told2 .given .1)) _ (c .place2 .ensures)
+returns-2 c = none-comes _ _ _ (rw (c .before .enum-told2 .given .1)) _ (c .nowhere2 .ensures)
 
 returns-3 : tie.Need-returns-3
 unfolding next
@@ -59,9 +59,9 @@ next-store-spec =
     tie.close
     (tie.spec
     enum-told
-    place-requires
+    nowhere-requires
     enum-told-2
-    place-requires-2
+    nowhere-requires-2
     enum-known-phase
     write-store-requires
     enum-known-phase-2

@@ -6,7 +6,7 @@ use lib.ListN.{set}
 use denote.Ref.{now}
 use borrow.Author.Needs.{needs}
 use Rattle.model.specs.Marker.{tornBy}
-use Rattle.mirror.proofs.Laws.{no-store, store-torn}
+use Rattle.mirror.proofs.Laws.{room, no-store, store-torn}
 use Rattle.mirror.proofs.tear_store.Statement.{statement}
 use Rattle.mirror.proofs.tear_store.Tie as tie
 
@@ -17,7 +17,7 @@ same-length : tie.Need-same-length
 same-length c = search needs
 
 returns : tie.Need-returns
-returns c = no-store (c .before .before .before .before .before .args .plan) (now (c .before .before .before .before .before .args .image)) _ _ (c .before .next-store .ensures .is) (tornBy (c .before .before .before .before .before .args .m)) (c .if1 .taken)
+returns c = no-store (c .before .before .before .before .before .args .plan) (now (c .before .before .before .before .before .args .image)) _ _ (c .before .next-store .ensures .is) (room (c .before .before .before .before .before .args .plan) (c .before .before .before .before .before .args .phase) (now (c .before .before .before .before .before .args .image)) (c .before .before .before .before .before .pre .0) .ok) (tornBy (c .before .before .before .before .before .args .m)) (c .if1 .taken)
 
 add-torn-byte : tie.Need-add-torn-byte
 add-torn-byte c = let n = c .before .next-store .ensures in omega (arith, n .inside (c .if1 .left), n .long)

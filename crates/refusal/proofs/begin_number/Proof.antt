@@ -7,6 +7,8 @@ use lib.ListN.{length}
 use denote.Ref.{now}
 use borrow.Author.Tests.{le-leb, lt-leb, eq-eqb, ne-eqb}
 use borrow.Author.Needs.{needs}
+use Rattle.model.proofs.LayoutLaws.{unit-some}
+use Rattle.mirror.proofs.Laws.{room}
 use Rattle.model.specs.Layout.{width}
 use Rattle.model.specs.Refusals.{beginNumber}
 use Rattle.model.proofs.RefusalLaws.{first-stop, first-skip, first-none}
@@ -50,7 +52,7 @@ base-of-requires c κs = search needs
 shared-slice-read-if4 : tie.Need-shared-slice-read-if4
 shared-slice-read-if4 c = let a = c .before .before .before .before .before .before .before .before .before .before .args in
     let l = live (a .plan) (a .phase) (now (a .image)) _ _ (c .before .before .before .before .before .before .before .phase-number .ensures) (c .before .before .before .before .before .before .if1 .left) in
-    omega (arith, unit-inside (a .plan) (a .phase) (now (a .image)) l (a .unit) (c .before .before .before .before .if2 .left), c .before .base-of .ensures .0)
+    omega (arith, unit-some (a .plan) (room (a .plan) (a .phase) (now (a .image)) l .ok) (a .unit), unit-inside (a .plan) (a .phase) (now (a .image)) l (a .unit) (c .before .before .before .before .if2 .left), c .before .base-of .ensures .0)
 
 returns-4 : tie.Need-returns-4
 unfolding beginNumber

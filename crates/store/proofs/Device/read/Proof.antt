@@ -18,8 +18,8 @@ returns : tie.Need-returns
 unfolding read
 returns c = part-refused _ _ _ (c .before .before .read-number .ensures) (c .before .if1 .taken)
 
-base-of-requires : tie.Need-base-of-requires
-base-of-requires c κs = search needs
+parts-of-requires : tie.Need-parts-of-requires
+parts-of-requires c κs = search needs
 
 add-start : tie.Need-add-start
 add-start c = search needs
@@ -40,15 +40,14 @@ part-result-start : tie.Need-part-result-start
 part-result-start c = search needs
 
 part-result-end : tie.Need-part-result-end
-part-result-end c = let a = c .before .before .before .before .before .before .args in
-    let h = read-inside (a .self .plan) (a .self .phase) (now (a .image)) _ (a .unit) (c .before .before .before .read-number .ensures) (c .before .before .if1 .left) in
-    omega (arith, h, c .before .base-of .ensures .0, c .width-of .ensures)
+part-result-end c = let a = c .before .before .before .before .before .before .before .args in
+    omega (arith, read-inside (a .self .plan) (a .self .phase) (now (a .image)) _ (a .unit) _ (c .before .before .parts-of .ensures .0) (c .before .before .before .before .read-number .ensures) (c .before .before .before .if1 .left), c .width-of .ensures)
 
 returns-2 : tie.Need-returns-2
 unfolding read
-returns-2 c = let a = c .before .before .before .before .before .before .before .args in
-    copy-part (a .self .plan) (a .self .phase) (now (a .image)) (a .unit) _ _ (c .before .before .base-of .ensures .0) (c .before .width-of .ensures)
-    ∙ part-shown _ _ _ (c .before .before .before .before .read-number .ensures) (c .before .before .before .if1 .left)
+returns-2 c = let a = c .before .before .before .before .before .before .before .before .args in
+    copy-part (a .self .plan) (a .self .phase) (now (a .image)) (a .unit) _ _ (c .before .before .before .parts-of .ensures .0) (c .before .width-of .ensures)
+    ∙ part-shown _ _ _ (c .before .before .before .before .before .read-number .ensures) (c .before .before .before .before .if1 .left)
 
 pub read-spec : {M : Type 1} → statement M
 read-spec =
@@ -57,7 +56,7 @@ read-spec =
     read-number-requires
     slice-aggregate-result
     returns
-    base-of-requires
+    parts-of-requires
     add-start
     width-of-requires
     cast-end
