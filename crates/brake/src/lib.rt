@@ -4,6 +4,9 @@ ghost use mathlib.Core.Path.{_≡_};
 ghost use Prim.Native.Nat.{_+_, _*_, _-_, _/_, _≤_, _<_};
 ghost use Rattle.model.specs.Drive.{driveNumber, drive};
 ghost use Rattle.brake.specs.Over.{driveOverNumber, driveOver};
+use model::refusals::BAD_LEVEL;
+use model::refusals::BAD_RATE;
+use model::refusals::NO_ROOM;
 
 // "The brake table has 1,280 entries, 20 levels by 64 bins, in the code": entry 64 × (level - 1) + bin.
 const DRIVES: [u16; 1280] = [
@@ -1308,10 +1311,10 @@ fn refusal(level: u16, rate: u16) -> u16
     ensures { λ r. ⌜ r ≡ driveNumber level rate ⌝ }
 {
     if level == 0 || 20 < level {
-        return 9;
+        return BAD_LEVEL;
     }
     if 255 < rate {
-        return 10;
+        return BAD_RATE;
     }
     0
 }
@@ -1342,7 +1345,7 @@ pub fn drive_over(table: &[u16], level: u16, rate: u16) -> Driven
 {
     if table.len() != 1280 {
         return Driven {
-            number: 11,
+            number: NO_ROOM,
             drive: 0,
         };
     }

@@ -1,3 +1,4 @@
+pub mod Numbers
 pub mod Marker
 pub mod Plans
 pub mod Layout

@@ -6,6 +6,7 @@ use mathlib.Core.List.{List, [], _∷_, _++_}
 use mathlib.Core.Bool.{Bool, true, false, cond, not, _||_}
 use lib.Dec.{eqb, leb}
 use Rattle.model.specs.declared.Plan.{Plan}
+pub use Rattle.model.specs.Numbers.{BAD-COUNT, BAD-WIDTH, SHORT-IMAGE, BAD-JOB, WRONG-PHASE, NO-UNIT, WRONG-SIZE, BAD-MARKER, FOREIGN-MARKER}
 unfoldable pub use Rattle.model.specs.Plans.{badCount, badWidths}
 use Rattle.model.specs.Plans.{width}
 use Rattle.model.specs.Marker.{OK, meaning, isForeign}
@@ -65,11 +66,11 @@ first (r ∷ rest) = cond (r .holds) (r .number) (first rest)
 
 -- "The plan's author (start and every device call)"
 abbrev pub planRow : Plan → List Refusal
-planRow p = 1 when badCount p ∷ 2 when badWidths p (p .count) ∷ []
+planRow p = BAD-COUNT when badCount p ∷ BAD-WIDTH when badWidths p (p .count) ∷ []
 
 -- what every device call refuses: the plan's two, "3 image too short", and 4
 abbrev pub deviceRow : View → List Refusal
-deviceRow v = planRow (v .plan) ++ (3 when v .short ∷ 4 when badJob (v .plan) (v .job) ∷ [])
+deviceRow v = planRow (v .plan) ++ (SHORT-IMAGE when v .short ∷ BAD-JOB when badJob (v .plan) (v .job) ∷ [])
 
 -- "5 wrong phase (format and wake outside Cold, begin and read outside Ready, step in Cold or Ready); 6 unit k or more;
 -- 7 payload length not w (begin)"; "8 that unit's marker isn't 1 (begin, read)". "Cut and inspect give 1 to 4."
@@ -77,7 +78,7 @@ unfoldable pub startNumber : Plan → ℕ
 startNumber p = first (planRow p)
 
 unfoldable pub formatNumber : View → ℕ
-formatNumber v = first (deviceRow v ++ (5 when not (isCold (v .job)) ∷ []))
+formatNumber v = first (deviceRow v ++ (WRONG-PHASE when not (isCold (v .job)) ∷ []))
 
 -- Ticket 4: "14 when any unit's marker is foreign; wake tests it after 5."
 unfoldable pub anyForeign : (ℕ → ℕ) → ℕ → Bool
@@ -86,10 +87,10 @@ anyForeign marker (suc k) = isForeign (meaning (marker k)) || anyForeign marker 
 
 unfoldable pub wakeNumber : View → ℕ
 wakeNumber v =
-    first (deviceRow v ++ (5 when not (isCold (v .job)) ∷ 14 when anyForeign (v .marker) (v .plan .count) ∷ []))
+    first (deviceRow v ++ (WRONG-PHASE when not (isCold (v .job)) ∷ FOREIGN-MARKER when anyForeign (v .marker) (v .plan .count) ∷ []))
 
 unfoldable pub stepNumber : View → ℕ
-stepNumber v = first (deviceRow v ++ (5 when (isCold (v .job) || isReady (v .job)) ∷ []))
+stepNumber v = first (deviceRow v ++ (WRONG-PHASE when (isCold (v .job) || isReady (v .job)) ∷ []))
 
 unfoldable pub cutNumber : View → ℕ
 cutNumber v = first (deviceRow v)
@@ -101,14 +102,14 @@ unfoldable pub readNumber : View → ℕ → ℕ
 readNumber v u =
     first
     (deviceRow v
-    ++ (5 when not (isReady (v .job)) ∷ 6 when leb (v .plan .count) u ∷ 8 when not (eqb (v .marker u) OK) ∷ []))
+    ++ (WRONG-PHASE when not (isReady (v .job)) ∷ NO-UNIT when leb (v .plan .count) u ∷ BAD-MARKER when not (eqb (v .marker u) OK) ∷ []))
 
 unfoldable pub beginNumber : View → ℕ → ℕ → ℕ
 beginNumber v u size =
     first
     (deviceRow v
-    ++ (5 when not (isReady (v .job))
-    ∷ 6 when leb (v .plan .count) u
-    ∷ 7 when not (eqb size (width (v .plan) u))
-    ∷ 8 when not (eqb (v .marker u) OK)
+    ++ (WRONG-PHASE when not (isReady (v .job))
+    ∷ NO-UNIT when leb (v .plan .count) u
+    ∷ WRONG-SIZE when not (eqb size (width (v .plan) u))
+    ∷ BAD-MARKER when not (eqb (v .marker u) OK)
     ∷ []))

@@ -3,6 +3,8 @@
 ghost use mathlib.Core.Path.{_≡_};
 ghost use Rattle.model.specs.Marker.{meaning, isForeign};
 
+pub mod refusals;
+
 // Units numbered from 0, each with its width in bytes. Widths past `count` are not looked at.
 pub struct Plan {
     pub count: u16,

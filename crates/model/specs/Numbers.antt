@@ -1,0 +1,45 @@
+-- The refusals by name; 0 is accepted. src/refusals.rt and the project's README have the same names. Document 01, 'Refusals',
+-- has 1 to 10; brake curves (Ticket 1) add 11 to 13, memory from another product (Ticket 4) adds 14.
+use Prim.Native.Nat.{ℕ}
+
+abbrev pub BAD-COUNT : ℕ
+BAD-COUNT = 1
+
+abbrev pub BAD-WIDTH : ℕ
+BAD-WIDTH = 2
+
+abbrev pub SHORT-IMAGE : ℕ
+SHORT-IMAGE = 3
+
+abbrev pub BAD-JOB : ℕ
+BAD-JOB = 4
+
+abbrev pub WRONG-PHASE : ℕ
+WRONG-PHASE = 5
+
+abbrev pub NO-UNIT : ℕ
+NO-UNIT = 6
+
+abbrev pub WRONG-SIZE : ℕ
+WRONG-SIZE = 7
+
+abbrev pub BAD-MARKER : ℕ
+BAD-MARKER = 8
+
+abbrev pub BAD-LEVEL : ℕ
+BAD-LEVEL = 9
+
+abbrev pub BAD-RATE : ℕ
+BAD-RATE = 10
+
+abbrev pub NO-ROOM : ℕ
+NO-ROOM = 11
+
+abbrev pub BAD-LINE : ℕ
+BAD-LINE = 12
+
+abbrev pub BAD-ENTRY : ℕ
+BAD-ENTRY = 13
+
+abbrev pub FOREIGN-MARKER : ℕ
+FOREIGN-MARKER = 14

@@ -1,0 +1,43 @@
+// The refusals by name; 0 is accepted. The same names stand in specs/Refusals.antt and in the project's README.
+
+// No unit, or more than eight.
+pub const BAD_COUNT: u16 = 1;
+
+// One of the plan's units has a width of 0 or above 256.
+pub const BAD_WIDTH: u16 = 2;
+
+// The image is shorter than all units together.
+pub const SHORT_IMAGE: u16 = 3;
+
+// A phase of a unit that there is not, or with as many stores made as its job has.
+pub const BAD_JOB: u16 = 4;
+
+// The call has no place in this phase.
+pub const WRONG_PHASE: u16 = 5;
+
+// No such unit.
+pub const NO_UNIT: u16 = 6;
+
+// The payload isn't as long as the unit is wide.
+pub const WRONG_SIZE: u16 = 7;
+
+// The unit's marker isn't OK.
+pub const BAD_MARKER: u16 = 8;
+
+// A level of 0 or above 20.
+pub const BAD_LEVEL: u16 = 9;
+
+// A rate above 255.
+pub const BAD_RATE: u16 = 10;
+
+// A curve's table isn't 1,280 long, or its scratch is too short.
+pub const NO_ROOM: u16 = 11;
+
+// A curve's line isn't of the form, or is missing, or is one too many.
+pub const BAD_LINE: u16 = 12;
+
+// A curve's entry is too high, falls, or isn't above the level below.
+pub const BAD_ENTRY: u16 = 13;
+
+// A unit's marker is foreign: the memory is another product's.
+pub const FOREIGN_MARKER: u16 = 14;
