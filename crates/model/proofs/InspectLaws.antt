@@ -12,11 +12,11 @@ use Rattle.model.specs.Calls.{AllMarkersOk, lowestBad}
 use Rattle.model.proofs.Compare.{equal, differ, same}
 
 module _ (p : Plan) (image : List ℕ) where
-  abbrev Good : ℕ → Type 0
+  abbrev pub Good : ℕ → Type 0
   Good u = get p image u marker ≡ OK
 
   -- of the n units from u on
-  abbrev Lowest : ℕ → ℕ → Option ℕ → Type 0
+  abbrev pub Lowest : ℕ → ℕ → Option ℕ → Type 0
   Lowest u n none = (v : ℕ) → u ≤ v → v < u + n → Good v
   Lowest u n (some t) = (t < u + n) × ¬ Good t × ((v : ℕ) → u ≤ v → v < t → Good v)
 
@@ -28,7 +28,7 @@ module _ (p : Plan) (image : List ℕ) where
   here : (u n : ℕ) → ¬ Good u → Lowest u (suc n) (some u)
   here u n h = (omega arith, h, λ v l m. absurd (omega arith))
 
-  lowest-among : (n u : ℕ) → Lowest u n (lowestBad p image n u)
+  pub lowest-among : (n u : ℕ) → Lowest u n (lowestBad p image n u)
   unfolding lowestBad
   lowest-among zero u = λ v l h. absurd (omega arith)
   lowest-among (suc n) u =
@@ -37,7 +37,7 @@ module _ (p : Plan) (image : List ℕ) where
         | differ h ↦ rw (ne-eqb (get p image u marker) OK h) (here u n h)
       ]
 
-  abbrev Names : Option ℕ → Type 0
+  abbrev pub Names : Option ℕ → Type 0
   Names none = AllMarkersOk p image
   Names (some u) = (u < p .count) × ¬ Good u × ((v : ℕ) → v < u → Good v)
 

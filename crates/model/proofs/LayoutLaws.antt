@@ -1,11 +1,11 @@
 -- What the calls use of the layout: cells lie in bounds and pairwise apart, a store changes the cell that it names and no other,
 -- and nothing past the units.
-use Prim.Native.Nat.{ℕ, zero, suc, _+_, _-_, _≤_, _<_, min}
+use Prim.Native.Nat.{ℕ, zero, suc, _+_, _-_, _≤_, _<_}
 use mathlib.Core.Path.{_≡_, refl, ap, sym, _∙_}
 use mathlib.Core.List.{List, _∷_, _++_}
 use mathlib.Core.Option.{Option, none, some}
 use native.Mathlib.Omega.{arith}
-use lib.ListN.{length, getD, take, drop, replicate, length-set, length-append, length-replicate, length-take, length-drop, getD-replicate, List·getD-append}
+use lib.ListN.{length, getD, drop, replicate, length-set, length-append, length-replicate, length-take, length-drop, getD-replicate, List·getD-append}
 use lib.Seq.{getD-set-same, getD-set-other, drop-set-lt, getD-take, getD-drop, getD-append-add, ext-getD, drop-at}
 use Rattle.model.specs.declared.Plan.{Plan}
 use Rattle.model.specs.Layout.{Copy, copyA, copyB, Cell, marker, byte, width, unitLength, offset, base, total, place, get, put, copyOf, fresh, formatted}
@@ -179,33 +179,35 @@ module _ (p : Plan) (ok : PlanOk p) where
         go completed = get-put-same image u marker x tt hu h
         go (tornBy m) = get-put-same image u marker (torn (get p image u marker) x m) tt hu h
 
-  -- ---- a copy whose bytes are those of s
+  -- ---- a whole copy
+  copy-place : (u : ℕ) (c : Copy) (i : ℕ) → place p u (byte c 0) + i ≡ place p u (byte c i)
+  copy-place u copyA i = omega arith
+  copy-place u copyB i = omega arith
+
+  pub copy-length : (image : List ℕ) (u : ℕ) (c : Copy) → u < p .count → total p ≤ length image
+      → length (copyOf p image u c) ≡ width p u
+  unfolding copyOf
+  copy-length image u c hu ht =
+      simp (length-take, length-drop) (omega (arith, base-bound u (p .count) hu, copy-bound u c))
+
+  pub copy-byte : (image : List ℕ) (u : ℕ) (c : Copy) (i : ℕ) → i < width p u
+      → getD (copyOf p image u c) i 0 ≡ get p image u (byte c i)
+  unfolding copyOf get
+  copy-byte image u c i h =
+      getD-take (width p u) (drop (place p u (byte c 0)) image) i 0 h
+      ∙ getD-drop (place p u (byte c 0)) image i 0
+      ∙ ap (λ (q : ℕ). getD image q 0) (copy-place u c i)
+
+  -- .. whose bytes are those of s
   pub copy-is : (image : List ℕ) (u : ℕ) (c : Copy) (s : List ℕ) → u < p .count → total p ≤ length image → length s ≡ width p u
       → ((i : ℕ) → i < width p u → get p image u (byte c i) ≡ getD s i 0)
       → copyOf p image u c ≡ s
-  unfolding get copyOf
-  copy-is image u c s hu ht hs h = go c h (λ i. offset-of c i)
-    where
-      w : ℕ
-      w = width p u
-
-      fits : (c : Copy) → min w (length image - place p u (byte c 0)) ≡ w
-      fits c = omega (arith, base-bound u (p .count) hu, copy-bound u c)
-
-      offset-of : (c : Copy) (i : ℕ) → place p u (byte c 0) + i ≡ place p u (byte c i)
-      offset-of copyA i = omega arith
-      offset-of copyB i = omega arith
-
-      go : (c : Copy) → ((i : ℕ) → i < w → getD image (place p u (byte c i)) 0 ≡ getD s i 0)
-          → ((i : ℕ) → place p u (byte c 0) + i ≡ place p u (byte c i))
-          → take w (drop (place p u (byte c 0)) image) ≡ s
-      go c h at =
-          let q : ℕ = place p u (byte c 0) in
-          let len : length (take w (drop q image)) ≡ w = simp (length-take, length-drop) (fits c) in
-          ext-getD 0 (take w (drop q image)) s (len ∙ sym hs)
-          (λ i hi.
-          let l : i < w = omega (arith, len) in
-          getD-take w (drop q image) i 0 l ∙ getD-drop q image i 0 ∙ ap (λ (r : ℕ). getD image r 0) (at i) ∙ h i l)
+  copy-is image u c s hu ht hs h =
+      let len = copy-length image u c hu ht in
+      ext-getD 0 (copyOf p image u c) s (len ∙ sym hs)
+      (λ i hi.
+      let l : i < width p u = omega (arith, len) in
+      copy-byte image u c i l ∙ h i l)
 
   -- ---- what format leaves
   pub length-fresh : (n : ℕ) → length (fresh p n) ≡ base p n

@@ -10,3 +10,4 @@ pub mod Keeps
 pub mod Theorem
 pub mod InspectLaws
 pub mod WorkedCases
+pub mod Demands

@@ -61,7 +61,7 @@ bits-zero (suc n) m = go (eqb (m % 2) 1) (bits-zero n (m / 2))
     go false e = omega arith
 
 -- one bit more doubles the bound
-bits-more : (n b old new m : ℕ) → tornBits n (old / 2) (new / 2) (m / 2) < b → tornBits (suc n) old new m < 2 * b
+pub bits-more : (n b old new m : ℕ) → tornBits n (old / 2) (new / 2) (m / 2) < b → tornBits (suc n) old new m < 2 * b
 unfolding tornBits
 bits-more n b old new m h = go (eqb (m % 2) 1)
   where

@@ -82,7 +82,7 @@ first-passed (r ∷ xs) ys h e =
     go true h e rest = absurd (omega (arith, ltb-true 0 (r .number) (h .0)))
     go false h e rest = rest (h .1) e
 
-or-false : (x y : Bool) → x ≡ false → y ≡ false → x || y ≡ false
+pub or-false : (x y : Bool) → x ≡ false → y ≡ false → x || y ≡ false
 or-false true y e f = e
 or-false false y e f = f
 

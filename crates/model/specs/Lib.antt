@@ -11,3 +11,4 @@ pub mod Foreign
 pub mod Drive
 pub mod Cases
 pub mod Edges
+pub mod Demands

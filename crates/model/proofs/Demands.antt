@@ -1,0 +1,484 @@
+-- Demands 1 and 2: every call does what specs/Demands.antt says.
+use Prim.Native.Nat.{ℕ, zero, suc, _+_, _-_, _*_, _/_, _%_, _≤_, _<_}
+use mathlib.Core.Path.{_≡_, refl, ap, sym, _∙_}
+use mathlib.Core.List.{List, []}
+use mathlib.Core.Option.{Option, none, some}
+use mathlib.Core.Bool.{Bool, true, false, cond, not, _||_, true≢false}
+use native.Mathlib.Omega.{arith}
+use lib.Dec.{eqb, ltb, leb}
+use lib.ListN.{length, getD, replicate, length-set, length-append, length-replicate, List·getD-append}
+use lib.Seq.{getD-set-same, getD-set-other, getD-drop, getD-append-add}
+use borrow.Author.Tests.{eq-eqb, ne-eqb, lt-ltb, le-ltb, leb-false, ltb-false}
+use Rattle.model.specs.declared.Plan.{Plan}
+use Rattle.model.specs.declared.Direction.{Direction}
+use Rattle.model.specs.declared.Direction.the-variants.{AToB, BToA}
+use Rattle.model.specs.declared.Phase.{Phase}
+use Rattle.model.specs.declared.Phase.the-variants.{Cold, Ready, Writing, Recovering}
+use Rattle.model.specs.Marker.{OK, A, direction, completed, tornBy, tornBits, torn}
+use Rattle.model.specs.Layout.{copyA, copyB, Cell, marker, byte, InUnit, width, base, total, place, get, put, copyOf, formatted}
+use Rattle.model.specs.Refusals.{writeTotal, cleanupTotal, badJob, isCold, isReady, first, startNumber, formatNumber, beginNumber, stepNumber, wakeNumber, cutNumber, readNumber, inspectNumber}
+use Rattle.model.specs.Stores.{Store, store, source, target, tornCell, stored}
+use Rattle.model.specs.Calls.{Device, Outcome, outcome, view, unlessRefused, startAnswer, jobOf, next, imageAfter, phaseAfter, cleanupAmong, cleanupFrom, lowestBad, inspection, counted, mostStores, padded, asFormatted, asBegun, asStepped, asWoken, asCut, partUnlessRefused}
+use Rattle.model.specs.Calls as calls
+use Rattle.model.specs.Drive.{driveNumber, drive, driveUnlessRefused}
+use Rattle.model.specs.Demands.{Lies, at, Does, Starts, OneByte, Formats, Begins, WriteStore, markerA, toA, markerB, toB, markerOK, CleanupStore, NextStore, ofWrite, ofCleanup, Way, fromA, fromB, Cleans, PhaseAfter, writing, written, cleaning, cleaned, Counts, more, most, Steps, Wakes, bit, Torn, data-byte, mixed, Tears, CutImage, Cuts, Reads, Inspects, EveryCall, Drives, EveryDrive}
+use Rattle.model.specs.Demands as demands
+use Rattle.model.proofs.Compare.{below, above, order, equal, differ, same}
+use Rattle.model.proofs.MarkerLaws.{direction-A, direction-other, bits-more}
+use Rattle.model.proofs.RefusalLaws.{first-past, first-skip, first-stop, first-none, or-false, false-or, PlanOk, Past, past, format-says, begin-says, width-bounds}
+use Rattle.model.proofs.LayoutLaws.{place-bound, copy-length, copy-byte, get-formatted, length-formatted, rest-formatted}
+use Rattle.model.proofs.StoreLaws.{next-A, next-to-A, next-B, next-to-B, next-OK, next-copy, next-settle, write-goes-on, write-ends, cleanup-goes-on, cleanup-ends}
+use Rattle.model.proofs.InspectLaws.{Names, names-lowest}
+
+-- ---- Refused and accepted.
+does : (P : Outcome → Type 0) (n : ℕ) (d : Device) (image : List ℕ) (o : Outcome) → o .number ≡ 0 → (n ≡ 0 → P o)
+    → Does P d image (unlessRefused n d image o)
+does P zero d image o z h = record { accepted = λ _. h refl; refused = λ q. absurd (q z) }
+does P (suc n) d image o z h = record { accepted = λ q. absurd (omega arith); refused = λ _. refl }
+
+-- ---- Where things lie.
+lies : (p : Plan) → Lies p
+unfolding base
+lies p =
+    record {
+      first = refl;
+      next = λ u. refl;
+      atMarker = λ u. omega arith;
+      atA = λ u i. refl;
+      atB = λ u i. refl;
+    }
+
+started : (p : Plan) → Starts p (calls.start p)
+unfolding calls.start
+started p = go (startNumber p)
+  where
+    go : (n : ℕ) → Starts p (startAnswer n p)
+    go zero =
+        record {
+          kept = λ z. refl;
+          count = λ h. absurd (h refl);
+          widths = λ h. absurd (h refl);
+          phase = refl;
+          payload = refl;
+          stores = refl;
+        }
+    go (suc n) =
+        record {
+          kept = λ z. absurd (omega arith);
+          count = λ h. refl;
+          widths = λ h. refl;
+          phase = refl;
+          payload = refl;
+          stores = refl;
+        }
+
+-- ---- One byte.
+one-byte : (p : Plan) (image : List ℕ) (u : ℕ) (c : Cell) (x : ℕ) → PlanOk p → total p ≤ length image → u < p .count
+    → InUnit (width p u) c → OneByte image (put p image u c x) (place p u c) x
+unfolding put
+one-byte p image u c x ok long hu hc =
+    let inside : place p u c < length image = omega (arith, place-bound p ok u (p .count) c hu hc) in
+    record {
+      inside = inside;
+      size = length-set image (place p u c) x;
+      changed = getD-set-same image (place p u c) x 0 inside;
+      others = λ i h. getD-set-other image (place p u c) i x 0 h;
+    }
+
+-- ---- Format.
+formatted-rest : (p : Plan) (image : List ℕ) (ok : PlanOk p) (i : ℕ) → total p ≤ i → getD (formatted p image) i 0 ≡ getD image i 0
+formatted-rest p image ok i h =
+    let e : total p + (i - total p) ≡ i = omega arith in
+    ap (λ (q : ℕ). getD (formatted p image) q 0) (sym e)
+    ∙ sym (getD-drop (total p) (formatted p image) (i - total p) 0)
+    ∙ ap (λ (xs : List ℕ). getD xs (i - total p) 0) (rest-formatted p ok image)
+    ∙ getD-drop (total p) image (i - total p) 0
+    ∙ ap (λ (q : ℕ). getD image q 0) e
+
+formats : (d : Device) (image : List ℕ) → formatNumber (view d image) ≡ 0
+    → Formats d image (outcome 0 (asFormatted d) (formatted (d .plan) image))
+unfolding get
+formats d image e =
+    let h = format-says (view d image) e in
+    let long : total (d .plan) ≤ length image = ltb-false (length image) (total (d .plan)) (h .1) in
+    record {
+      plan = refl;
+      payload = refl;
+      phase = refl;
+      stores = refl;
+      markers = λ u l. get-formatted (d .plan) (h .0) image u marker l tt;
+      zeros = λ u l c i k. get-formatted (d .plan) (h .0) image u (byte c i) l k;
+      others = formatted-rest (d .plan) image (h .0);
+      size = length-formatted (d .plan) (h .0) image long;
+    }
+
+-- ---- Begin.
+zeros-at : (n i : ℕ) → getD {A = ℕ} (replicate n 0) i 0 ≡ 0
+zeros-at zero i = refl
+zeros-at (suc n) zero = refl
+zeros-at (suc n) (suc i) = zeros-at n i
+
+begins : (d : Device) (image : List ℕ) (u : ℕ) (payload : List ℕ) → beginNumber (view d image) u (length payload) ≡ 0
+    → Begins d image u payload (outcome 0 (asBegun u (padded payload) d) image)
+unfolding beginNumber
+begins d image u payload e =
+    let began = begin-says (view d image) u (length payload) e in
+    let ok = past (view d image) _ e .plan in
+    let narrow : length payload ≤ 256 = omega (arith, began .size, width-bounds (d .plan) ok u (began .unit) .1) in
+    record {
+      plan = refl;
+      phase = refl;
+      stores = refl;
+      size = simp (length-append, length-replicate) (omega arith);
+      held = λ i h. List·getD-append payload (replicate (256 - length payload) 0) 0 i h;
+      zeros = λ i h.
+          let q : length payload + (i - length payload) ≡ i = omega arith in
+          ap (λ (k : ℕ). getD (padded payload) k 0) (sym q)
+          ∙ getD-append-add payload (replicate (256 - length payload) 0) (i - length payload) 0
+          ∙ zeros-at (256 - length payload) (i - length payload);
+      image′ = refl;
+    }
+
+-- ---- The next store of a device that refusals 1 to 4 let pass.
+pub record Found (d : Device) (image : List ℕ) : Type 0 where
+  pub unit : ℕ
+  pub cell : Cell
+  pub value : ℕ
+  pub is : next (d .plan) (d .payload) image (d .phase) ≡ some (store unit cell value)
+  pub there : unit < d .plan .count
+  pub inside : InUnit (width (d .plan) unit) cell
+  pub rule : NextStore (d .plan) (d .payload) image (d .phase) unit cell value
+
+module _ (d : Device) (image : List ℕ) where
+  abbrev p : Plan
+  p = d .plan
+
+  abbrev comes : Phase → Option Store
+  comes phase = next p (d .payload) image phase
+
+  module _ (u made : ℕ) (now : d .phase ≡ Writing u made) (hu : u < p .count) where
+    abbrev w : ℕ
+    w = width p u
+
+    -- the store that a write makes after m, which are as many as it made
+    writes : (m : ℕ) (c : Cell) (x : ℕ) → made ≡ m → comes (Writing u m) ≡ some (store u c x) → InUnit w c
+        → WriteStore w (d .payload) made c x → Found d image
+    writes m c x e is inside rule =
+        record {
+          unit = u;
+          cell = c;
+          value = x;
+          is = rw now (rw e is);
+          there = hu;
+          inside = inside;
+          rule = rw now (ofWrite u made c x rule);
+        }
+
+    find-write : made < writeTotal w → Found d image
+    find-write h =
+        elim (same made 0) [
+          | equal e ↦ writes 0 marker 2 e (next-A p (d .payload) image u) tt (markerA e)
+          | differ n ↦ elim (order made (suc w)) [
+            | below l ↦ writes (suc (made - 1)) (byte copyA (made - 1)) _ (omega arith)
+                (next-to-A p (d .payload) image u (made - 1) (omega arith)) (omega arith) (toA (made - 1) (omega arith) (omega arith))
+            | above l ↦ elim (same made (suc w)) [
+              | equal e ↦ writes (suc w) marker 4 e (next-B p (d .payload) image u) tt (markerB (omega arith))
+              | differ k ↦ elim (same made (suc (w + suc w))) [
+                | equal e ↦ writes (suc (w + suc w)) marker 1 e (next-OK p (d .payload) image u) tt (markerOK (omega arith))
+                | differ j ↦ writes (suc (w + suc (made - (w + 2)))) (byte copyB (made - (w + 2))) _ (omega arith)
+                    (next-to-B p (d .payload) image u (made - (w + 2)) (omega arith)) (omega arith)
+                    (toB (made - (w + 2)) (omega arith) (omega arith))
+              ]
+            ]
+          ]
+        ]
+
+  module _ (u made : ℕ) (way : Direction) (now : d .phase ≡ Recovering u made way) (hu : u < p .count) where
+    cleans : (m : ℕ) (c : Cell) (x : ℕ) → made ≡ m → comes (Recovering u m way) ≡ some (store u c x) → InUnit (width p u) c
+        → CleanupStore p image u made way c x → Found d image
+    cleans m c x e is inside rule =
+        record {
+          unit = u;
+          cell = c;
+          value = x;
+          is = rw now (rw e is);
+          there = hu;
+          inside = inside;
+          rule = rw now (ofCleanup u made way c x rule);
+        }
+
+    copies : (v : Direction) → made < width p u
+        → CleanupStore p image u made v (byte (target v) made) (at p image u (byte (source v) made))
+    copies AToB l = demands.CleanupStore.toB l
+    copies BToA l = demands.CleanupStore.toA l
+
+    find-cleanup : made < cleanupTotal (width p u) → Found d image
+    unfolding get
+    find-cleanup h =
+        elim (order made (width p u)) [
+          | below l ↦ cleans made (byte (target way) made) _ refl (next-copy p (d .payload) image u way made l) l (copies way l)
+          | above l ↦ cleans (width p u) marker 1 (omega arith) (next-settle p (d .payload) image u way) tt
+              (demands.CleanupStore.markerOK way (omega arith))
+        ]
+
+  -- 4 does not apply, and the phase has a store to make
+  find : (phase : Phase) → d .phase ≡ phase → badJob p (jobOf phase) ≡ false
+      → isCold (jobOf phase) || isReady (jobOf phase) ≡ false → Found d image
+  unfolding badJob
+  find Cold now fine busy = absurd (true≢false busy)
+  find Ready now fine busy = absurd (true≢false busy)
+  find (Writing u made) now fine busy =
+      let h = false-or (leb (p .count) u) (leb (writeTotal (width p u)) made) fine in
+      find-write u made now (leb-false (p .count) u (h .0)) (leb-false (writeTotal (width p u)) made (h .1))
+  find (Recovering u made way) now fine busy =
+      let h = false-or (leb (p .count) u) (leb (cleanupTotal (width p u)) made) fine in
+      find-cleanup u made way now (leb-false (p .count) u (h .0)) (leb-false (cleanupTotal (width p u)) made (h .1))
+
+-- ---- The cleanup that begins.
+way-of : (m : ℕ) → Way m (direction m)
+way-of m =
+    elim (same m A) [
+      | equal e ↦ rw (direction-A m e) (fromB e)
+      | differ h ↦ rw (direction-other m h) (fromA h)
+    ]
+
+cleans-from : (p : Plan) (image : List ℕ) (n u : ℕ) → u + n ≡ p .count → Cleans p image u (cleanupAmong p image n u)
+unfolding cleanupAmong get
+cleans-from p image zero u e = demands.Cleans.none (λ v l h. absurd (omega arith))
+cleans-from p image (suc n) u e =
+    elim (same (get p image u marker) OK) [
+      | equal g ↦ rw (eq-eqb (get p image u marker) OK g) (wider g (cleans-from p image n (suc u) (omega arith)))
+      | differ h ↦ rw (ne-eqb (get p image u marker) OK h)
+          (demands.Cleans.lowest u _ (omega arith) (omega arith) h (λ v l k. absurd (omega arith)) (way-of (get p image u marker)))
+    ]
+  where
+    wider : {next : Phase} → get p image u marker ≡ OK → Cleans p image (suc u) next → Cleans p image u next
+    wider g (demands.Cleans.none h) = demands.Cleans.none (λ v l k. elim (same v u) [ equal q ↦ rw q g | differ q ↦ h v (omega arith) k ])
+    wider g (demands.Cleans.lowest t way l k bad h m) =
+        demands.Cleans.lowest t way (omega arith) k bad (λ v i j. elim (same v u) [ equal q ↦ rw q g | differ q ↦ h v (omega arith) j ]) m
+
+-- ---- Step.
+phase-after : (p : Plan) (image′ : List ℕ) (phase : Phase) → badJob p (jobOf phase) ≡ false
+    → isCold (jobOf phase) || isReady (jobOf phase) ≡ false → PhaseAfter p image′ phase (phaseAfter p image′ phase)
+unfolding badJob
+phase-after p image′ Cold fine busy = absurd (true≢false busy)
+phase-after p image′ Ready fine busy = absurd (true≢false busy)
+phase-after p image′ (Writing u made) fine busy =
+    let l = leb-false (writeTotal (width p u)) made (false-or (leb (p .count) u) _ fine .1) in
+    elim (same (suc made) (writeTotal (width p u))) [
+      | equal e ↦ rw (write-ends p image′ u made e) (written u made e)
+      | differ h ↦ rw (write-goes-on p image′ u made h) (writing u made (omega arith))
+    ]
+phase-after p image′ (Recovering u made way) fine busy =
+    let h = false-or (leb (p .count) u) _ fine in
+    let l = leb-false (cleanupTotal (width p u)) made (h .1) in
+    let hu = leb-false (p .count) u (h .0) in
+    elim (same (suc made) (cleanupTotal (width p u))) [
+      | equal e ↦ rw (cleanup-ends p image′ u made way e)
+          (cleaned u made way _ e (cleans-from p image′ (p .count - suc u) (suc u) (omega arith)))
+      | differ n ↦ rw (cleanup-goes-on p image′ u made way n) (cleaning u made way (omega arith))
+    ]
+
+counts : (n : ℕ) → Counts n (counted n)
+unfolding counted
+counts n =
+    elim (order n mostStores) [
+      | below l ↦ rw (lt-ltb n mostStores l) (more l)
+      | above l ↦ rw (le-ltb n mostStores l) (most l)
+    ]
+
+steps : (d : Device) (image : List ℕ) → stepNumber (view d image) ≡ 0
+    → Steps d image (outcome 0 (asStepped (phaseAfter (d .plan) (imageAfter completed d image) (d .phase)) d) (imageAfter completed d image))
+unfolding stepNumber imageAfter stored
+steps d image e =
+    let h = past (view d image) _ e in
+    let busy = first-past 4 (isCold (jobOf (d .phase)) || isReady (jobOf (d .phase))) [] (h .more) .0 in
+    let f = find d image (d .phase) refl (h .job) busy in
+    record {
+      unit = f .unit;
+      cell = f .cell;
+      value = f .value;
+      store = f .rule;
+      image′ = rw (f .is) (one-byte (d .plan) image (f .unit) (f .cell) (f .value) (h .plan)
+          (ltb-false (length image) (total (d .plan)) (h .long)) (f .there) (f .inside));
+      plan = refl;
+      payload = refl;
+      phase = phase-after (d .plan) (imageAfter completed d image) (d .phase) (h .job) busy;
+      stores = counts (d .stores);
+    }
+
+-- ---- Wake.
+wakes : (d : Device) (image : List ℕ) → wakeNumber (view d image) ≡ 0
+    → Wakes d image (outcome 0 (asWoken (cleanupFrom (d .plan) image 0) d) image)
+wakes d image e =
+    record {
+      plan = refl;
+      payload = refl;
+      phase = cleans-from (d .plan) image (d .plan .count - 0) 0 (omega arith);
+      stores = refl;
+      image′ = refl;
+    }
+
+-- ---- Cut. A torn marker, bit by bit.
+low : (t : Bool) (new old x : ℕ) → (cond t (new % 2) (old % 2) + 2 * x) % 2 ≡ cond t (new % 2) (old % 2)
+low true new old x = omega arith
+low false new old x = omega arith
+
+high : (t : Bool) (new old x : ℕ) → (cond t (new % 2) (old % 2) + 2 * x) / 2 ≡ x
+high true new old x = omega arith
+high false new old x = omega arith
+
+bit-torn : (n k old new m : ℕ) → k < n → bit k (tornBits n old new m) ≡ cond (eqb (bit k m) 1) (bit k new) (bit k old)
+unfolding bit tornBits
+bit-torn zero k old new m h = absurd (omega arith)
+bit-torn (suc n) zero old new m h = low (eqb (m % 2) 1) new old _
+bit-torn (suc n) (suc k) old new m h =
+    ap (bit k) (high (eqb (m % 2) 1) new old (tornBits n (old / 2) (new / 2) (m / 2)))
+    ∙ bit-torn n k (old / 2) (new / 2) (m / 2) (omega arith)
+
+unfoldable twice : ℕ → ℕ
+twice zero = 1
+twice (suc n) = 2 * twice n
+
+bits-below : (n old new m : ℕ) → tornBits n old new m < twice n
+unfolding tornBits twice
+bits-below zero old new m = omega arith
+bits-below (suc n) old new m = bits-more n (twice n) old new m (bits-below n (old / 2) (new / 2) (m / 2))
+
+torn-as : (m old new : ℕ) (c : Cell) → Torn m old new c (tornCell m c old new)
+unfolding torn twice
+torn-as m old new marker = mixed (tornBits 8 old new m) (bits-below 8 old new m) (λ k h. bit-torn 8 k old new m h)
+torn-as m old new (byte c i) = data-byte c i
+
+cuts : (d : Device) (image : List ℕ) (m : ℕ) → cutNumber (view d image) ≡ 0
+    → Cuts d image m (outcome 0 (asCut d) (imageAfter (tornBy m) d image))
+unfolding cutNumber imageAfter stored next get
+cuts d image m e =
+    record { plan = refl; payload = refl; phase = refl; stores = refl; image′ = go (d .phase) refl }
+  where
+    fine : Past (view d image) []
+    fine = past (view d image) [] e
+
+    tears : isCold (jobOf (d .phase)) || isReady (jobOf (d .phase)) ≡ false → Tears d image m (imageAfter (tornBy m) d image)
+    tears busy =
+        let f = find d image (d .phase) refl (fine .job) busy in
+        record {
+          unit = f .unit;
+          cell = f .cell;
+          value = f .value;
+          left = tornCell m (f .cell) (at (d .plan) image (f .unit) (f .cell)) (f .value);
+          store = f .rule;
+          torn = torn-as m (at (d .plan) image (f .unit) (f .cell)) (f .value) (f .cell);
+          changed = rw (f .is) (one-byte (d .plan) image (f .unit) (f .cell) _ (fine .plan)
+              (ltb-false (length image) (total (d .plan)) (fine .long)) (f .there) (f .inside));
+        }
+
+    go : (phase : Phase) → d .phase ≡ phase → CutImage phase d image m (imageAfter (tornBy m) d image)
+    go Cold now = rw now
+    go Ready now = rw now
+    go (Writing u made) now = tears (rw now)
+    go (Recovering u made way) now = tears (rw now)
+
+-- ---- Read.
+read-there : (d : Device) (image : List ℕ) (u : ℕ) → readNumber (view d image) u ≡ 0
+    → PlanOk (d .plan) × (total (d .plan) ≤ length image) × (u < d .plan .count)
+unfolding readNumber
+read-there d image u e =
+    let h = past (view d image) _ e in
+    let h₅ = first-past 4 (not (isReady (jobOf (d .phase)))) _ (h .more) in
+    (h .plan, ltb-false (length image) (total (d .plan)) (h .long), leb-false (d .plan .count) u (first-past 5 (leb (d .plan .count) u) _ (h₅ .1) .0))
+
+reads : (d : Device) (image : List ℕ) (u : ℕ) → Reads d image u (calls.read d image u)
+unfolding calls.read get
+reads d image u = go (readNumber (view d image) u) refl
+  where
+    go : (n : ℕ) → readNumber (view d image) u ≡ n → Reads d image u (partUnlessRefused n (copyOf (d .plan) image u copyA))
+    go zero e =
+        let h = read-there d image u e in
+        record {
+          refused = λ q. absurd (q e);
+          size = λ z. copy-length (d .plan) (h .0) image u copyA (h .2) (h .1);
+          bytes = λ z i l. copy-byte (d .plan) (h .0) image u copyA i l;
+        }
+    go (suc n) e =
+        record {
+          refused = λ q. refl;
+          size = λ z. absurd (omega (arith, z, e));
+          bytes = λ z. absurd (omega (arith, z, e));
+        }
+
+-- ---- Inspect.
+inspects : (d : Device) (image : List ℕ) → Inspects d image (calls.inspect d image)
+unfolding calls.inspect get
+inspects d image = go (inspectNumber (view d image)) (lowestBad (d .plan) image (d .plan .count) 0) refl (names-lowest (d .plan) image)
+  where
+    go : (n : ℕ) (found : Option ℕ) → inspectNumber (view d image) ≡ n → Names (d .plan) image found → Inspects d image (inspection n found)
+    go (suc n) found e h = (rw e refl, λ z. absurd (omega arith))
+    go zero (some u) e h = (e, h .0, h .1, h .2)
+    go zero none e h = (e, h)
+
+pub every-call : EveryCall
+unfolding calls.format calls.begin calls.step calls.wake calls.cut
+every-call d image =
+    let stepped : List ℕ = imageAfter completed d image in
+    record {
+      lies = lies (d .plan);
+      start = started (d .plan);
+      format = does (Formats d image) (formatNumber (view d image)) d image
+          (outcome 0 (asFormatted d) (formatted (d .plan) image)) refl (formats d image);
+      begin = λ u payload. does (Begins d image u payload) (beginNumber (view d image) u (length payload)) d image
+          (outcome 0 (asBegun u (padded payload) d) image) refl (begins d image u payload);
+      step = does (Steps d image) (stepNumber (view d image)) d image
+          (outcome 0 (asStepped (phaseAfter (d .plan) stepped (d .phase)) d) stepped) refl (steps d image);
+      wake = does (Wakes d image) (wakeNumber (view d image)) d image
+          (outcome 0 (asWoken (cleanupFrom (d .plan) image 0) d) image) refl (wakes d image);
+      cut = λ m. does (Cuts d image m) (cutNumber (view d image)) d image
+          (outcome 0 (asCut d) (imageAfter (tornBy m) d image)) refl (cuts d image m);
+      read = reads d image;
+      inspect = inspects d image;
+    }
+
+-- ---- The drive.
+level-fine : (l : ℕ) → 1 ≤ l → l ≤ 20 → eqb l 0 || ltb 20 l ≡ false
+level-fine l h k = or-false _ _ (ne-eqb l 0 (λ e. absurd (omega arith))) (le-ltb 20 l k)
+
+drive-fine : (l r : ℕ) → 1 ≤ l → l ≤ 20 → r ≤ 255 → driveNumber l r ≡ 0
+unfolding driveNumber
+drive-fine l r h k m = first-skip 9 _ _ (level-fine l h k) ∙ first-skip 10 _ [] (le-ltb 255 r m) ∙ first-none
+
+drives : (l r : ℕ) → 1 ≤ l → l ≤ 20 → r ≤ 255 → Drives l r
+unfolding drive
+drives l r h k m =
+    let n = drive-fine l r h k m in
+    record {
+      bin = r / 4;
+      bin-least = omega arith;
+      bin-most = omega arith;
+      half = l * (r / 4) / 2;
+      half-least = omega arith;
+      half-most = omega arith;
+      number = n;
+      is = rw n;
+    }
+
+pub every-drive : EveryDrive
+unfolding driveNumber drive
+every-drive =
+    record {
+      accepted = drives;
+      no-level = λ r. first-stop 9 _ _ refl;
+      high-level = λ l r h. first-stop 9 _ _ (level-bad l (lt-ltb 20 l h));
+      high-rate = λ l r h k m. first-skip 9 _ _ (level-fine l h k) ∙ first-stop 10 _ [] (lt-ltb 255 r m);
+      refused = λ l r h. none (driveNumber l r) _ h;
+    }
+  where
+    level-bad : (l : ℕ) → ltb 20 l ≡ true → eqb l 0 || ltb 20 l ≡ true
+    level-bad l e = go (eqb l 0) e
+      where
+        go : (t : Bool) → ltb 20 l ≡ true → t || ltb 20 l ≡ true
+        go true e = refl
+        go false e = e
+
+    none : (n x : ℕ) → ¬ (n ≡ 0) → driveUnlessRefused n x ≡ 0
+    none zero x h = absurd (h refl)
+    none (suc n) x h = refl
