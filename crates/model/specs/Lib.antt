@@ -12,3 +12,4 @@ pub mod Drive
 pub mod Cases
 pub mod Edges
 pub mod Demands
+pub mod Refuses

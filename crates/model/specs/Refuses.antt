@@ -1,0 +1,82 @@
+-- WHEN A CALL IS REFUSED, and by which number: document 01, 'Refusals', as conditions on the plan, the device, the image and the
+-- call's arguments. It is proved in proofs/Refuses.antt that each call answers the lowest number whose condition holds, and 0
+-- exactly if none does. What a refused call leaves is in specs/Demands.antt.
+use Prim.Native.Nat.{ℕ, _+_, _*_, _≤_, _<_}
+use mathlib.Core.Path.{_≡_}
+use mathlib.Core.List.{List}
+use lib.ListN.{length}
+use Rattle.model.specs.declared.Plan.{Plan}
+use Rattle.model.specs.declared.Direction.{Direction}
+use Rattle.model.specs.declared.Phase.the-variants.{Cold, Ready, Writing, Recovering}
+use Rattle.model.specs.Layout.{marker, width, total}
+use Rattle.model.specs.Refusals.{readNumber, inspectNumber}
+use Rattle.model.specs.Calls.{Device, view}
+use Rattle.model.specs.Calls as calls
+use Rattle.model.specs.Demands.{at}
+
+-- "0 is accepted. The lowest number that applies is given, and a refusal is given only when its condition holds."
+pub record Lowest (Applies : ℕ → Type 0) (n : ℕ) : Type 0 where
+  pub given : ¬ (n ≡ 0) → Applies n
+  pub lowest : (k : ℕ) → Applies k → (1 ≤ n) × (n ≤ k)
+
+-- "The plan's author": 1 and 2
+pub data BadPlan (p : Plan) : ℕ → Type 0 where
+  noUnit : p .count ≡ 0 → BadPlan p 1
+  manyUnits : 8 < p .count → BadPlan p 1
+  noWidth : (u : ℕ) → u < p .count → width p u ≡ 0 → BadPlan p 2
+  wide : (u : ℕ) → u < p .count → 256 < width p u → BadPlan p 2
+
+-- "The firmware": 3 and 4, which every call with an image has
+pub data BadDevice (d : Device) (image : List ℕ) : ℕ → Type 0 where
+  plan : {n : ℕ} → BadPlan (d .plan) n → BadDevice d image n
+  short : length image < total (d .plan) → BadDevice d image 3
+  -- "a phase whose unit is k or more, or whose stores made are not below the job's total"
+  writingNoUnit : (u made : ℕ) → d .phase ≡ Writing u made → d .plan .count ≤ u → BadDevice d image 4
+  writingMade : (u made : ℕ) → d .phase ≡ Writing u made → 2 * width (d .plan) u + 3 ≤ made → BadDevice d image 4
+  cleaningNoUnit : (u made : ℕ) (way : Direction) → d .phase ≡ Recovering u made way → d .plan .count ≤ u
+      → BadDevice d image 4
+  cleaningMade : (u made : ℕ) (way : Direction) → d .phase ≡ Recovering u made way → width (d .plan) u + 1 ≤ made
+      → BadDevice d image 4
+
+-- "5 wrong phase": format outside Cold
+pub data BadFormat (d : Device) (image : List ℕ) : ℕ → Type 0 where
+  device : {n : ℕ} → BadDevice d image n → BadFormat d image n
+  phase : ¬ (d .phase ≡ Cold) → BadFormat d image 5
+
+-- wake outside Cold; Ticket 4: "14 when any unit's marker is foreign", 8 or above
+pub data BadWake (d : Device) (image : List ℕ) : ℕ → Type 0 where
+  device : {n : ℕ} → BadDevice d image n → BadWake d image n
+  phase : ¬ (d .phase ≡ Cold) → BadWake d image 5
+  foreign : (u : ℕ) → u < d .plan .count → 8 ≤ at (d .plan) image u marker → BadWake d image 14
+
+-- "step in Cold or Ready"
+pub data BadStep (d : Device) (image : List ℕ) : ℕ → Type 0 where
+  device : {n : ℕ} → BadDevice d image n → BadStep d image n
+  cold : d .phase ≡ Cold → BadStep d image 5
+  ready : d .phase ≡ Ready → BadStep d image 5
+
+-- "begin and read outside Ready"; "6 unit k or more"; "8 that unit's marker isn't 1"
+pub data BadRead (d : Device) (image : List ℕ) (u : ℕ) : ℕ → Type 0 where
+  device : {n : ℕ} → BadDevice d image n → BadRead d image u n
+  phase : ¬ (d .phase ≡ Ready) → BadRead d image u 5
+  unit : d .plan .count ≤ u → BadRead d image u 6
+  mark : ¬ (at (d .plan) image u marker ≡ 1) → BadRead d image u 8
+
+-- "7 payload length not w (begin)"
+pub data BadBegin (d : Device) (image : List ℕ) (u : ℕ) (payload : List ℕ) : ℕ → Type 0 where
+  asRead : {n : ℕ} → BadRead d image u n → BadBegin d image u payload n
+  size : ¬ (length payload ≡ width (d .plan) u) → BadBegin d image u payload 7
+
+-- ---- Every call's number, of every device, image and argument. "Cut and inspect give 1 to 4."
+pub record Refuses (d : Device) (image : List ℕ) : Type 0 where
+  pub start : Lowest (BadPlan (d .plan)) (calls.start (d .plan) .number)
+  pub format : Lowest (BadFormat d image) (calls.format d image .number)
+  pub begin : (u : ℕ) (payload : List ℕ) → Lowest (BadBegin d image u payload) (calls.begin d image u payload .number)
+  pub step : Lowest (BadStep d image) (calls.step d image .number)
+  pub wake : Lowest (BadWake d image) (calls.wake d image .number)
+  pub cut : (m : ℕ) → Lowest (BadDevice d image) (calls.cut d image m .number)
+  pub read : (u : ℕ) → Lowest (BadRead d image u) (readNumber (view d image) u)
+  pub inspect : Lowest (BadDevice d image) (inspectNumber (view d image))
+
+abbrev pub EveryRefusal : Type 0
+EveryRefusal = (d : Device) (image : List ℕ) → Refuses d image
