@@ -458,7 +458,7 @@ drives l r h k m =
       half-least = omega arith;
       half-most = omega arith;
       number = n;
-      is = rw n;
+      is = rw n (omega arith);
     }
 
 pub every-drive : EveryDrive

@@ -15,7 +15,7 @@ use Rattle.model.specs.Layout.{marker, width, total, get}
 use Rattle.model.specs.Refusals.{isCold, isReady, writeTotal, cleanupTotal, badCount, badWidths, badJob, Refusal, _when_, first, planRow, deviceRow, anyForeign, startNumber, formatNumber, beginNumber, stepNumber, wakeNumber, cutNumber, readNumber, inspectNumber}
 use Rattle.model.specs.Calls.{Device, Outcome, view, jobOf, unlessRefused, startAnswer}
 use Rattle.model.specs.Calls as calls
-use Rattle.model.specs.Refuses.{Lowest, BadPlan, noUnit, manyUnits, noWidth, wide, BadDevice, plan, short, writingNoUnit, writingMade, cleaningNoUnit, cleaningMade, BadFormat, BadWake, foreign, BadStep, BadRead, BadBegin, asRead, size, EveryRefusal}
+use Rattle.model.specs.Refuses.{Lowest, BadPlan, noUnit, manyUnits, noWidth, wide, BadDevice, plan, short, writingNoUnit, writingMade, cleaningNoUnit, cleaningMade, BadFormat, BadWake, foreign, BadStep, BadRead, BadBegin, asRead, size, RefusedExactly}
 use Rattle.model.specs.Refuses as bad
 use Rattle.model.proofs.Compare.{below, above, order, equal, differ, same}
 use Rattle.model.proofs.MarkerLaws.{not-foreign}
@@ -394,9 +394,9 @@ started : (n : ℕ) (p : Plan) → n ≡ startAnswer n p .number
 started zero p = refl
 started (suc n) p = refl
 
-pub every-refusal : EveryRefusal
+pub refused-exactly : RefusedExactly
 unfolding startNumber cutNumber inspectNumber calls.start calls.format calls.begin calls.step calls.wake calls.cut
-every-refusal d image =
+refused-exactly d image =
     record {
       start = subst (Lowest (BadPlan (d .plan))) (started _ _)
           (lowest (BadPlan (d .plan)) (planRow (d .plan)) (omega arith, (omega arith, tt)) (plan-to (d .plan)) (plan-from (d .plan)));

@@ -29,10 +29,6 @@ pub record Numbers : Type 0 where
   pub read : ℕ
   pub begin : ℕ
 
-abbrev numbers : ℕ → ℕ → ℕ → ℕ → ℕ → ℕ → ℕ → ℕ → Numbers
-numbers a b c d e f g h =
-    record { start = a; format = b; wake = c; step = d; cut = e; inspect = f; read = g; begin = h }
-
 -- a device and an image, and the unit and the payload that read and begin are asked for
 pub record Situation : Type 0 where
   pub device : Device
@@ -42,15 +38,16 @@ pub record Situation : Type 0 where
 
 abbrev pub numbersIn : Situation → Numbers
 numbersIn s =
-    numbers
-    (calls.start (s .device .plan) .number)
-    (calls.format (s .device) (s .image) .number)
-    (calls.wake (s .device) (s .image) .number)
-    (calls.step (s .device) (s .image) .number)
-    (calls.cut (s .device) (s .image) 0 .number)
-    (inspectNumber (view (s .device) (s .image)))
-    (readNumber (view (s .device) (s .image)) (s .unit))
-    (calls.begin (s .device) (s .image) (s .unit) (s .payload) .number)
+    record {
+      start = calls.start (s .device .plan) .number;
+      format = calls.format (s .device) (s .image) .number;
+      wake = calls.wake (s .device) (s .image) .number;
+      step = calls.step (s .device) (s .image) .number;
+      cut = calls.cut (s .device) (s .image) 0 .number;
+      inspect = inspectNumber (view (s .device) (s .image));
+      read = readNumber (view (s .device) (s .image)) (s .unit);
+      begin = calls.begin (s .device) (s .image) (s .unit) (s .payload) .number;
+    }
 
 -- a device of k units with the widths 2, w, 1, 0, 0 .. in a phase, over an image
 abbrev at : ℕ → ℕ → Phase → List ℕ → ℕ → List ℕ → Situation
@@ -80,7 +77,7 @@ row s n = record { situation = s; expected = n }
 
 -- the same number from every call that has a device
 abbrev all : ℕ → ℕ → Numbers
-all first n = numbers first n n n n n n n
+all first n = record { start = first; format = n; wake = n; step = n; cut = n; inspect = n; read = n; begin = n }
 
 abbrev pub refusals : List Row
 refusals =
@@ -98,29 +95,43 @@ refusals =
     ∷ row (at 2 1 (Writing 0 7) (marked 2) 2 []) (all 0 4)
     ∷ row (at 2 1 (Recovering 2 0 AToB) (marked 2) 2 []) (all 0 4)
     ∷ row (at 2 1 (Recovering 0 3 BToA) (marked 2) 2 []) (all 0 4)
-    -- start format wake step cut inspect read begin, in this order
     -- 5: each phase has its calls
-    ∷ row (at 2 1 (Writing 0 6) (marked 2) 2 []) (numbers 0 5 5 0 0 0 5 5)
-    ∷ row (at 2 1 (Recovering 0 2 AToB) (marked 2) 2 []) (numbers 0 5 5 0 0 0 5 5)
-    ∷ row (at 2 1 Cold (marked 2) 2 []) (numbers 0 0 0 5 0 0 5 5)
+    ∷ row (at 2 1 (Writing 0 6) (marked 2) 2 [])
+    (record { start = 0; format = 5; wake = 5; step = 0; cut = 0; inspect = 0; read = 5; begin = 5 })
+    ∷ row (at 2 1 (Recovering 0 2 AToB) (marked 2) 2 [])
+    (record { start = 0; format = 5; wake = 5; step = 0; cut = 0; inspect = 0; read = 5; begin = 5 })
+    ∷ row (at 2 1 Cold (marked 2) 2 [])
+    (record { start = 0; format = 0; wake = 0; step = 5; cut = 0; inspect = 0; read = 5; begin = 5 })
     -- 6: unit k
-    ∷ row (at 2 1 Ready (marked 2) 2 []) (numbers 0 5 5 5 0 0 6 6)
+    ∷ row (at 2 1 Ready (marked 2) 2 [])
+    (record { start = 0; format = 5; wake = 5; step = 5; cut = 0; inspect = 0; read = 6; begin = 6 })
     -- 7: a byte of payload too few, and one too many
-    ∷ row (at 2 1 Ready (marked 2) 0 (9 ∷ [])) (numbers 0 5 5 5 0 0 8 7)
-    ∷ row (at 2 1 Ready (marked 2) 0 (9 ∷ 9 ∷ 9 ∷ [])) (numbers 0 5 5 5 0 0 8 7)
+    ∷ row (at 2 1 Ready (marked 2) 0 (9 ∷ []))
+    (record { start = 0; format = 5; wake = 5; step = 5; cut = 0; inspect = 0; read = 8; begin = 7 })
+    ∷ row (at 2 1 Ready (marked 2) 0 (9 ∷ 9 ∷ 9 ∷ []))
+    (record { start = 0; format = 5; wake = 5; step = 5; cut = 0; inspect = 0; read = 8; begin = 7 })
     -- 8: the unit's own marker, whatever the others are
-    ∷ row (at 2 1 Ready (marked 2) 0 (9 ∷ 9 ∷ [])) (numbers 0 5 5 5 0 0 8 8)
-    ∷ row (at 2 1 Ready (1 ∷ 0 ∷ 0 ∷ 0 ∷ 0 ∷ 0 ∷ 0 ∷ 0 ∷ []) 1 (9 ∷ [])) (numbers 0 5 5 5 0 0 8 8)
-    ∷ row (at 2 1 Ready (0 ∷ 0 ∷ 0 ∷ 0 ∷ 0 ∷ 1 ∷ 0 ∷ 0 ∷ []) 1 (9 ∷ [])) (numbers 0 5 5 5 0 0 0 0)
+    ∷ row (at 2 1 Ready (marked 2) 0 (9 ∷ 9 ∷ []))
+    (record { start = 0; format = 5; wake = 5; step = 5; cut = 0; inspect = 0; read = 8; begin = 8 })
+    ∷ row (at 2 1 Ready (1 ∷ 0 ∷ 0 ∷ 0 ∷ 0 ∷ 0 ∷ 0 ∷ 0 ∷ []) 1 (9 ∷ []))
+    (record { start = 0; format = 5; wake = 5; step = 5; cut = 0; inspect = 0; read = 8; begin = 8 })
+    ∷ row (at 2 1 Ready (0 ∷ 0 ∷ 0 ∷ 0 ∷ 0 ∷ 1 ∷ 0 ∷ 0 ∷ []) 1 (9 ∷ []))
+    (record { start = 0; format = 5; wake = 5; step = 5; cut = 0; inspect = 0; read = 0; begin = 0 })
     -- 14: any unit's marker, after 5; begin and read give 8
-    ∷ row (at 2 1 Cold (marked 7) 0 (9 ∷ 9 ∷ [])) (numbers 0 0 0 5 0 0 5 5)
-    ∷ row (at 2 1 Cold (8 ∷ 0 ∷ 0 ∷ 0 ∷ 0 ∷ 1 ∷ 0 ∷ 0 ∷ []) 0 (9 ∷ 9 ∷ [])) (numbers 0 0 14 5 0 0 5 5)
-    ∷ row (at 2 1 Cold (1 ∷ 0 ∷ 0 ∷ 0 ∷ 0 ∷ 255 ∷ 0 ∷ 0 ∷ []) 0 (9 ∷ 9 ∷ [])) (numbers 0 0 14 5 0 0 5 5)
-    ∷ row (at 2 1 Ready (marked 8) 0 (9 ∷ 9 ∷ [])) (numbers 0 5 5 5 0 0 8 8)
+    ∷ row (at 2 1 Cold (marked 7) 0 (9 ∷ 9 ∷ []))
+    (record { start = 0; format = 0; wake = 0; step = 5; cut = 0; inspect = 0; read = 5; begin = 5 })
+    ∷ row (at 2 1 Cold (8 ∷ 0 ∷ 0 ∷ 0 ∷ 0 ∷ 1 ∷ 0 ∷ 0 ∷ []) 0 (9 ∷ 9 ∷ []))
+    (record { start = 0; format = 0; wake = 14; step = 5; cut = 0; inspect = 0; read = 5; begin = 5 })
+    ∷ row (at 2 1 Cold (1 ∷ 0 ∷ 0 ∷ 0 ∷ 0 ∷ 255 ∷ 0 ∷ 0 ∷ []) 0 (9 ∷ 9 ∷ []))
+    (record { start = 0; format = 0; wake = 14; step = 5; cut = 0; inspect = 0; read = 5; begin = 5 })
+    ∷ row (at 2 1 Ready (marked 8) 0 (9 ∷ 9 ∷ []))
+    (record { start = 0; format = 5; wake = 5; step = 5; cut = 0; inspect = 0; read = 8; begin = 8 })
     -- a foreign byte that is no unit's marker
-    ∷ row (at 1 1 Cold (1 ∷ 8 ∷ 8 ∷ 8 ∷ 8 ∷ 8 ∷ 0 ∷ 0 ∷ []) 0 (9 ∷ 9 ∷ [])) (numbers 0 0 0 5 0 0 5 5)
+    ∷ row (at 1 1 Cold (1 ∷ 8 ∷ 8 ∷ 8 ∷ 8 ∷ 8 ∷ 0 ∷ 0 ∷ []) 0 (9 ∷ 9 ∷ []))
+    (record { start = 0; format = 0; wake = 0; step = 5; cut = 0; inspect = 0; read = 5; begin = 5 })
     -- the widest unit, and a byte after the units
-    ∷ row (at 3 256 Ready (replicate 5 0 ++ (1 ∷ replicate 516 0)) 1 (replicate 256 9)) (numbers 0 5 5 5 0 0 0 0)
+    ∷ row (at 3 256 Ready (replicate 5 0 ++ (1 ∷ replicate 516 0)) 1 (replicate 256 9))
+    (record { start = 0; format = 5; wake = 5; step = 5; cut = 0; inspect = 0; read = 0; begin = 0 })
     ∷ []
 
 abbrev pub EveryRefusal : Type 0
@@ -285,39 +296,36 @@ noted cs =
 abbrev write3 : Call
 write3 = begin 1 (3 ∷ [])
 
-abbrev pub EveryEntry : Type 0
-EveryEntry =
-    noted []
-    ∷ noted (wake ∷ begin 1 [] ∷ step ∷ [])
-    ∷ noted (write3 ∷ [])
-    ∷ noted (write3 ∷ cut 0 ∷ [])
-    ∷ noted (write3 ∷ cut 255 ∷ [])
-    ∷ noted (write3 ∷ step ∷ step ∷ cut 0 ∷ [])
-    ∷ noted (write3 ∷ step ∷ step ∷ cut 4 ∷ [])
-    ∷ noted (write3 ∷ step ∷ step ∷ step ∷ [])
-    ∷ noted (write3 ∷ step ∷ step ∷ step ∷ step ∷ step ∷ [])
-    ∷ noted (write3 ∷ step ∷ cut 0 ∷ wake ∷ [])
-    ∷ noted (write3 ∷ step ∷ cut 0 ∷ wake ∷ step ∷ step ∷ [])
-    ∷ noted (write3 ∷ step ∷ step ∷ cut 4 ∷ wake ∷ step ∷ cut 1 ∷ [])
-    ∷ noted (write3 ∷ step ∷ step ∷ cut 4 ∷ wake ∷ step ∷ cut 1 ∷ wake ∷ [])
-    ∷ []
-    ≡ entry ready (replicate 256 0) 0 1 (0 ∷ [])
-    ∷ entry ready (replicate 256 0) 0 1 (0 ∷ [])
-    ∷ entry (writing 1 0) (3 ∷ []) 0 1 (0 ∷ [])
+-- a list of calls, and what the ledger has noted after it
+pub record Noted : Type 0 where
+  pub calls : List Call
+  pub entry : Entry
+
+abbrev notes : List Call → Entry → Noted
+notes cs e = record { calls = cs; entry = e }
+
+abbrev pub entries : List Noted
+entries =
+    notes [] (entry ready (replicate 256 0) 0 1 (0 ∷ []))
+    ∷ notes (wake ∷ begin 1 [] ∷ step ∷ []) (entry ready (replicate 256 0) 0 1 (0 ∷ []))
+    ∷ notes (write3 ∷ []) (entry (writing 1 0) (3 ∷ []) 0 1 (0 ∷ []))
     -- a torn store counts
-    ∷ entry cold (3 ∷ []) 1 1 (0 ∷ [])
-    ∷ entry cold (3 ∷ []) 1 2 (0 ∷ [])
+    ∷ notes (write3 ∷ cut 0 ∷ []) (entry cold (3 ∷ []) 1 1 (0 ∷ []))
+    ∷ notes (write3 ∷ cut 255 ∷ []) (entry cold (3 ∷ []) 1 2 (0 ∷ []))
     -- store w + 2 torn, leaving 2 and leaving 6
-    ∷ entry cold (3 ∷ []) 1 2 (0 ∷ [])
-    ∷ entry cold (3 ∷ []) 1 6 (3 ∷ [])
-    ∷ entry (writing 1 3) (3 ∷ []) 1 4 (3 ∷ [])
-    ∷ entry ready (3 ∷ []) 1 1 (3 ∷ [])
-    ∷ entry (recovering 1 0) (3 ∷ []) 1 2 (0 ∷ [])
-    ∷ entry ready (3 ∷ []) 1 1 (0 ∷ [])
+    ∷ notes (write3 ∷ step ∷ step ∷ cut 0 ∷ []) (entry cold (3 ∷ []) 1 2 (0 ∷ []))
+    ∷ notes (write3 ∷ step ∷ step ∷ cut 4 ∷ []) (entry cold (3 ∷ []) 1 6 (3 ∷ []))
+    ∷ notes (write3 ∷ step ∷ step ∷ step ∷ []) (entry (writing 1 3) (3 ∷ []) 1 4 (3 ∷ []))
+    ∷ notes (write3 ∷ step ∷ step ∷ step ∷ step ∷ step ∷ []) (entry ready (3 ∷ []) 1 1 (3 ∷ []))
+    ∷ notes (write3 ∷ step ∷ cut 0 ∷ wake ∷ []) (entry (recovering 1 0) (3 ∷ []) 1 2 (0 ∷ []))
+    ∷ notes (write3 ∷ step ∷ cut 0 ∷ wake ∷ step ∷ step ∷ []) (entry ready (3 ∷ []) 1 1 (0 ∷ []))
     -- Ticket 4: 7, the highest marker that a list leaves, is no foreign one
-    ∷ entry cold (3 ∷ []) 1 7 (3 ∷ [])
-    ∷ entry (recovering 1 0) (3 ∷ []) 1 7 (3 ∷ [])
+    ∷ notes (write3 ∷ step ∷ step ∷ cut 4 ∷ wake ∷ step ∷ cut 1 ∷ []) (entry cold (3 ∷ []) 1 7 (3 ∷ []))
+    ∷ notes (write3 ∷ step ∷ step ∷ cut 4 ∷ wake ∷ step ∷ cut 1 ∷ wake ∷ []) (entry (recovering 1 0) (3 ∷ []) 1 7 (3 ∷ []))
     ∷ []
+
+abbrev pub EveryEntry : Type 0
+EveryEntry = map (λ (n : Noted). noted (n .calls)) entries ≡ map (λ (n : Noted). n .entry) entries
 
 -- ---- Ticket 4: "refusals that tickets add count there and in the ledger as 01's". No list leaves a ledger with this marker:
 -- its wake is refused with 14 and leaves it Cold.
@@ -328,22 +336,34 @@ abbrev pub ForeignTold : Type 0
 ForeignTold = tells plan21 foreignEntry (wake ∷ write3 ∷ []) ≡ 14 ∷ 5 ∷ []
 
 -- ---- What inspect says: none bad, one or the other, both, a marker of no meaning, and an image that is a byte short.
-abbrev says : List ℕ → Inspection
-says image = calls.inspect (device Cold held) image
-
 abbrev bad0 : List ℕ
 bad0 = 4 ∷ 0 ∷ 0 ∷ 0 ∷ 0 ∷ []
 
+pub record Seen : Type 0 where
+  pub image : List ℕ
+  pub answer : Inspection
+
+abbrev seen : List ℕ → Inspection → Seen
+seen image answer = record { image = image; answer = answer }
+
+abbrev pub inspections : List Seen
+inspections =
+    seen (units fresh0 fresh1) AllOk
+    ∷ seen (units bad0 fresh1) (Suspect 0)
+    ∷ seen (units fresh0 (2 ∷ 0 ∷ 0 ∷ [])) (Suspect 1)
+    ∷ seen (units bad0 (2 ∷ 0 ∷ 0 ∷ [])) (Suspect 0)
+    ∷ seen (units fresh0 (64 ∷ 0 ∷ 0 ∷ [])) (Suspect 1)
+    ∷ seen (replicate 7 1) (Refused 3)
+    ∷ []
+
+-- in every phase
+abbrev answersIn : Phase → List Inspection
+answersIn phase = map (λ (q : Seen). calls.inspect (device phase held) (q .image)) inspections
+
 abbrev pub EveryInspection : Type 0
 EveryInspection =
-    says (units fresh0 fresh1)
-    ∷ says (units bad0 fresh1)
-    ∷ says (units fresh0 (2 ∷ 0 ∷ 0 ∷ []))
-    ∷ says (units bad0 (2 ∷ 0 ∷ 0 ∷ []))
-    ∷ says (units fresh0 (64 ∷ 0 ∷ 0 ∷ []))
-    ∷ says (replicate 7 1)
-    ∷ []
-    ≡ AllOk ∷ Suspect 0 ∷ Suspect 1 ∷ Suspect 0 ∷ Suspect 1 ∷ Refused 3 ∷ []
+    map answersIn (Cold ∷ Ready ∷ Writing 0 6 ∷ Recovering 1 1 BToA ∷ [])
+    ≡ replicate 4 (map (λ (q : Seen). q .answer) inspections)
 
 -- ---- The stores counted after each call of a device that has counted n.
 abbrev good : List ℕ
@@ -355,20 +375,29 @@ torn0 = units (2 ∷ 0 ∷ 0 ∷ 0 ∷ 0 ∷ []) fresh1
 abbrev busy : ℕ → Device
 busy n = counting n (Writing 0 1) held
 
-abbrev pub EveryCount : Type 0
-EveryCount =
-    calls.start plan21 .device .stores
-    ∷ calls.format (counting 7 Cold held) good .device .stores
+pub record Count : Type 0 where
+  pub device : Device
+  pub stores : ℕ
+
+abbrev count : Device → ℕ → Count
+count d n = record { device = d; stores = n }
+
+abbrev pub counts : List Count
+counts =
+    count (calls.start plan21 .device) 0
+    ∷ count (calls.format (counting 7 Cold held) good .device) 0
     -- a format that is refused keeps it
-    ∷ calls.format (counting 7 Ready held) good .device .stores
-    ∷ calls.begin (counting 7 Ready held) good 1 (3 ∷ []) .device .stores
-    ∷ calls.wake (counting 7 Cold held) torn0 .device .stores
+    ∷ count (calls.format (counting 7 Ready held) good .device) 7
+    ∷ count (calls.begin (counting 7 Ready held) good 1 (3 ∷ []) .device) 7
+    ∷ count (calls.wake (counting 7 Cold held) torn0 .device) 7
     -- a step, one that is refused, and a torn store
-    ∷ calls.step (busy 7) torn0 .device .stores
-    ∷ calls.step (counting 7 Ready held) good .device .stores
-    ∷ calls.cut (busy 7) torn0 255 .device .stores
+    ∷ count (calls.step (busy 7) torn0 .device) 8
+    ∷ count (calls.step (counting 7 Ready held) good .device) 7
+    ∷ count (calls.cut (busy 7) torn0 255 .device) 7
     -- at the top it holds
-    ∷ calls.step (busy 4294967294) torn0 .device .stores
-    ∷ calls.step (busy 4294967295) torn0 .device .stores
+    ∷ count (calls.step (busy 4294967294) torn0 .device) 4294967295
+    ∷ count (calls.step (busy 4294967295) torn0 .device) 4294967295
     ∷ []
-    ≡ 0 ∷ 0 ∷ 7 ∷ 7 ∷ 7 ∷ 8 ∷ 7 ∷ 7 ∷ 4294967295 ∷ 4294967295 ∷ []
+
+abbrev pub EveryCount : Type 0
+EveryCount = map (λ (c : Count). c .device .stores) counts ≡ map (λ (c : Count). c .stores) counts

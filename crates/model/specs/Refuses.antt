@@ -78,5 +78,5 @@ pub record Refuses (d : Device) (image : List ℕ) : Type 0 where
   pub read : (u : ℕ) → Lowest (BadRead d image u) (readNumber (view d image) u)
   pub inspect : Lowest (BadDevice d image) (inspectNumber (view d image))
 
-abbrev pub EveryRefusal : Type 0
-EveryRefusal = (d : Device) (image : List ℕ) → Refuses d image
+abbrev pub RefusedExactly : Type 0
+RefusedExactly = (d : Device) (image : List ℕ) → Refuses d image
