@@ -156,6 +156,11 @@ module _ (d : Device) (image : List ℕ) where
   abbrev comes : Phase → Option Store
   comes phase = next p (d .payload) image phase
 
+  found : (phase : Phase) (u : ℕ) (c : Cell) (x : ℕ) → d .phase ≡ phase → u < p .count → comes phase ≡ some (store u c x)
+      → InUnit (width p u) c → NextStore p (d .payload) image phase u c x → Found d image
+  found phase u c x now hu is inside rule =
+      record { unit = u; cell = c; value = x; is = rw now is; there = hu; inside = inside; rule = rw now rule }
+
   module _ (u made : ℕ) (now : d .phase ≡ Writing u made) (hu : u < p .count) where
     abbrev w : ℕ
     w = width p u
@@ -163,16 +168,7 @@ module _ (d : Device) (image : List ℕ) where
     -- the store that a write makes after m, which are as many as it made
     writes : (m : ℕ) (c : Cell) (x : ℕ) → made ≡ m → comes (Writing u m) ≡ some (store u c x) → InUnit w c
         → WriteStore w (d .payload) made c x → Found d image
-    writes m c x e is inside rule =
-        record {
-          unit = u;
-          cell = c;
-          value = x;
-          is = rw now (rw e is);
-          there = hu;
-          inside = inside;
-          rule = rw now (ofWrite u made c x rule);
-        }
+    writes m c x e is inside rule = found (Writing u made) u c x now hu (rw e is) inside (ofWrite u made c x rule)
 
     find-write : made < writeTotal w → Found d image
     find-write h =
@@ -197,15 +193,7 @@ module _ (d : Device) (image : List ℕ) where
     cleans : (m : ℕ) (c : Cell) (x : ℕ) → made ≡ m → comes (Recovering u m way) ≡ some (store u c x) → InUnit (width p u) c
         → CleanupStore p image u made way c x → Found d image
     cleans m c x e is inside rule =
-        record {
-          unit = u;
-          cell = c;
-          value = x;
-          is = rw now (rw e is);
-          there = hu;
-          inside = inside;
-          rule = rw now (ofCleanup u made way c x rule);
-        }
+        found (Recovering u made way) u c x now hu (rw e is) inside (ofCleanup u made way c x rule)
 
     copies : (v : Direction) → made < width p u
         → CleanupStore p image u made v (byte (target v) made) (at p image u (byte (source v) made))
