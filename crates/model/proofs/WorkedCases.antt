@@ -9,7 +9,7 @@ use Rattle.model.specs.Ledger.{opening, markerOf, told, writeMarker, cle
 use Rattle.model.specs.PowerCut.{call, run, answers}
 use Rattle.model.specs.Drive.{driveNumber, drive}
 use Rattle.model.specs.Cases.{EveryCase}
-use Rattle.model.specs.Edges.{EveryRefusal, EveryOutcome, EveryStart, EveryPart, EveryEntry, ForeignTold, EveryInspection, EveryCount, trace}
+use Rattle.model.specs.Edges.{EveryRefusal, EveryOutcome, EveryStart, EveryPart, EveryEntry, ForeignTold, EveryInspection, EveryCount, EveryDriving, trace}
 
 -- C1 to C12
 pub every-case : EveryCase
@@ -47,3 +47,7 @@ every-inspection = refl
 pub every-count : EveryCount
 unfolding meaning direction tornBits torn base get put fresh formatted badCount badWidths badJob first startNumber formatNumber wakeNumber stepNumber cutNumber anyForeign beginNumber copying writeStores cleanupStores stored calls.next calls.imageAfter calls.cleanupAmong calls.phaseAfter calls.counted calls.start calls.format calls.begin calls.step calls.wake calls.cut
 every-count = refl
+
+pub every-driving : EveryDriving
+unfolding first driveNumber drive
+every-driving = refl

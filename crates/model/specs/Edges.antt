@@ -1,5 +1,5 @@
 -- Edges that the power-cut theorem cannot see, as tables and facts: every number of every call; whole outcomes, also on images
--- that no list from a formatted device leaves; the ledger's own entries; what inspect says; the stores counted.
+-- that no list from a formatted device leaves; the ledger's own entries; what inspect says; the stores counted; the drive.
 -- proofs/WorkedCases.antt has the theorems that the definitions give every row.
 use Prim.Native.Nat.{ℕ, zero, suc}
 use mathlib.Core.Path.{_≡_}
@@ -17,6 +17,7 @@ use Rattle.model.specs.Calls as calls
 use Rattle.model.specs.Ledger.{Call, begin, step, cut, wake, Ledger, opening, tells, after}
 use Rattle.model.specs.PowerCut.{call}
 use Rattle.model.specs.Cases.{planned}
+use Rattle.model.specs.Drive.{driveNumber, drive}
 
 -- ---- Refusals. A row has a situation, in which whatever a later row mends is still wrong, and the number of each call there.
 pub record Numbers : Type 0 where
@@ -401,3 +402,34 @@ counts =
 
 abbrev pub EveryCount : Type 0
 EveryCount = map (λ (c : Count). c .device .stores) counts ≡ map (λ (c : Count). c .stores) counts
+
+-- ---- The drive: each of its numbers and their order, the ends of a bin, and where l × c is odd.
+pub record Driven : Type 0 where
+  pub level : ℕ
+  pub rate : ℕ
+  pub number : ℕ
+  pub drive : ℕ
+
+abbrev driven : ℕ → ℕ → ℕ → ℕ → Driven
+driven l r n x = record { level = l; rate = r; number = n; drive = x }
+
+abbrev pub drivings : List Driven
+drivings =
+    driven 0 0 9 0
+    ∷ driven 0 256 9 0
+    ∷ driven 21 0 9 0
+    ∷ driven 21 256 9 0
+    ∷ driven 1 256 10 0
+    ∷ driven 20 256 10 0
+    ∷ driven 1 3 0 260
+    ∷ driven 1 4 0 260
+    ∷ driven 1 7 0 260
+    ∷ driven 1 8 0 261
+    ∷ driven 3 4 0 581
+    ∷ driven 19 255 0 3738
+    ∷ []
+
+abbrev pub EveryDriving : Type 0
+EveryDriving =
+    map (λ (q : Driven). driven (q .level) (q .rate) (driveNumber (q .level) (q .rate)) (drive (q .level) (q .rate))) drivings
+    ≡ drivings
