@@ -46,6 +46,7 @@ lies p =
       atMarker = λ u. omega arith;
       atA = λ u i. refl;
       atB = λ u i. refl;
+      all = refl;
     }
 
 started : (p : Plan) → Starts p (calls.start p)

@@ -27,13 +27,14 @@ use Rattle.model.specs.Calls as calls
 use Rattle.model.specs.Drive.{driveNumber, drive}
 
 -- ---- Where things lie. "Units lie one after another from image byte 0. A unit is its marker, copy A of w bytes, copy B of w
--- bytes: 1 + 2w bytes."
+-- bytes: 1 + 2w bytes."; and "all units together".
 pub record Lies (p : Plan) : Type 0 where
   pub first : base p 0 ≡ 0
   pub next : (u : ℕ) → base p (suc u) ≡ base p u + (1 + 2 * width p u)
   pub atMarker : (u : ℕ) → place p u marker ≡ base p u
   pub atA : (u i : ℕ) → place p u (byte copyA i) ≡ base p u + (1 + i)
   pub atB : (u i : ℕ) → place p u (byte copyB i) ≡ base p u + (1 + width p u + i)
+  pub all : total p ≡ base p (p .count)
 
 -- what stands in a cell of the image
 abbrev pub at : Plan → List ℕ → ℕ → Cell → ℕ
