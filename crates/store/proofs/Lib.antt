@@ -1,3 +1,4 @@
 pub mod Laws
 pub mod Padding
 pub mod Going
+pub mod InARow
