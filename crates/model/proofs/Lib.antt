@@ -12,3 +12,4 @@ pub mod LedgerLaws
 pub mod Invariant
 pub mod Keeps
 pub mod Theorem
+pub mod Restart

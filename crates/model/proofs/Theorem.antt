@@ -54,7 +54,7 @@ module _ (p : Plan) (ok : PlanOk p) (before : List ℕ) where
     pub answered : answers cs o ≡ tells p l cs
     pub inv : Inv p before (after p l cs) (run cs o)
 
-  along : (cs : List Call) (l : Ledger) (o : Outcome) → Inv p before l o → Along cs l o
+  pub along : (cs : List Call) (l : Ledger) (o : Outcome) → Inv p before l o → Along cs l o
   unfolding answers tells run after fed
   along [] l o inv = record { answered = refl; inv = inv }
   along (c ∷ cs) l o inv =
@@ -63,7 +63,7 @@ module _ (p : Plan) (ok : PlanOk p) (before : List ℕ) where
       record { answered = ap₂ _∷_ (h .answer) (t .answered); inv = t .inv }
 
   -- ---- the closing cut is accepted and leaves Cold
-  job-fine : (l : Ledger) (o : Outcome) → Inv p before l o → badJob p (l .job) ≡ false
+  pub job-fine : (l : Ledger) (o : Outcome) → Inv p before l o → badJob p (l .job) ≡ false
   unfolding badJob
   job-fine l o inv = go (inv .stage)
     where
@@ -98,7 +98,7 @@ module _ (p : Plan) (ok : PlanOk p) (before : List ℕ) where
   after-snoc [] c l = refl
   after-snoc (x ∷ cs) c l = after-snoc cs c (fed p l x)
 
-  ends-cold : (cs : List Call) (m : ℕ) (l : Ledger) (o : Outcome) → Inv p before l o → after p l (closedBy m cs) .job ≡ cold
+  pub ends-cold : (cs : List Call) (m : ℕ) (l : Ledger) (o : Outcome) → Inv p before l o → after p l (closedBy m cs) .job ≡ cold
   ends-cold cs m l o inv =
       rw (after-snoc cs (cut m) l) (cut-leaves-cold (after p l cs) (run cs o) m (along cs l o inv .inv))
 
@@ -215,7 +215,7 @@ module _ (p : Plan) (ok : PlanOk p) (before : List ℕ) where
         }
 
   -- ---- what the closing cut left is repaired
-  repaired : (l : Ledger) (o : Outcome) → Inv p before l o → l .job ≡ cold → l .marker ≤ 7 → Repaired p before (l .saved) o
+  pub repaired : (l : Ledger) (o : Outcome) → Inv p before l o → l .job ≡ cold → l .marker ≤ 7 → Repaired p before (l .saved) o
   unfolding told accepted
   repaired l o inv job small = go (same (l .marker) OK)
     where
@@ -265,11 +265,11 @@ module _ (p : Plan) (ok : PlanOk p) (before : List ℕ) where
       ]
 
 -- ---- the theorem
-accepts : (n : ℕ) (d : Device) (image : List ℕ) (o : Outcome) → calls.unlessRefused n d image o .number ≡ 0 → n ≡ 0
+pub accepts : (n : ℕ) (d : Device) (image : List ℕ) (o : Outcome) → calls.unlessRefused n d image o .number ≡ 0 → n ≡ 0
 accepts zero d image o e = refl
 accepts (suc n) d image o e = e
 
-format-opens : (d : Device) (image : List ℕ) → calls.format d image .number ≡ 0
+pub format-opens : (d : Device) (image : List ℕ) → calls.format d image .number ≡ 0
     → PlanOk (d .plan) × Inv (d .plan) image (opening (d .plan)) (calls.format d image)
 unfolding calls.format
 format-opens d image e =
@@ -290,7 +290,7 @@ never-foreign d image e cs m n =
     let h = format-opens d image e in
     image-small (d .plan) (h .0) image (calls.format d image) (h .1) (take n (closedBy m cs))
 
-start-accepts : (p : Plan) → calls.start p .number ≡ 0 → (startNumber p ≡ 0) × (calls.start p .device ≡ asStarted p)
+pub start-accepts : (p : Plan) → calls.start p .number ≡ 0 → (startNumber p ≡ 0) × (calls.start p .device ≡ asStarted p)
 unfolding calls.start
 start-accepts p e = go (startNumber p) e
   where

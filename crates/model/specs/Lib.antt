@@ -7,6 +7,7 @@ pub mod Stores
 pub mod Calls
 pub mod Ledger
 pub mod PowerCut
+pub mod Restart
 pub mod Foreign
 pub mod Drive
 pub mod Cases

@@ -1,0 +1,103 @@
+-- THE POWER-CUT THEOREM FOR A CONSOLE THAT LOSES ITS RAM, proved: what start gives and what a cut leaves differ in the count of stores
+-- alone, no call looks at the count, and neither does the invariant.
+use Prim.Native.Nat.{ℕ, zero, suc}
+use mathlib.Core.Path.{_≡_, refl, ap, sym, _∙_, subst}
+use mathlib.Core.List.{List}
+use lib.ListN.{length}
+use Rattle.model.specs.declared.Plan.{Plan}
+use Rattle.model.specs.Marker.{completed, tornBy}
+use Rattle.model.specs.Refusals.{startNumber, beginNumber, stepNumber, wakeNumber, cutNumber}
+use Rattle.model.specs.Calls.{Device, Outcome, outcome, asStarted, asBegun, asStepped, asWoken, asCut, padded, view, imageAfter, cleanupFrom, phaseAfter}
+use Rattle.model.specs.Calls as calls
+use Rattle.model.specs.Ledger.{Ledger, Call, begin, step, cut, wake, opening, judged, told, fed}
+use Rattle.model.specs.PowerCut.{call, run, closedBy}
+use Rattle.model.specs.Restart.{restarted, Leads, ended, called, lost, uncounted, PowerCutRestarting, RestartingAlike}
+use Rattle.model.proofs.RefusalLaws.{PlanOk, first-skip, first-none, cut-any}
+use Rattle.model.proofs.LedgerLaws.{ledger-small}
+use Rattle.model.proofs.Invariant.{Inv}
+use Rattle.model.proofs.Keeps.{keeps}
+use Rattle.model.proofs.Theorem.{accepts, along, job-fine, ends-cold, repaired, format-opens}
+
+-- ---- no call's number, phase, payload or image depends on the count
+settle : (n : ℕ) (o : Outcome) (f : Device → Outcome) → uncounted (f (uncounted o .device)) ≡ uncounted (f (o .device))
+    → uncounted (calls.unlessRefused n (uncounted o .device) (o .image) (f (uncounted o .device)))
+    ≡ uncounted (calls.unlessRefused n (o .device) (o .image) (f (o .device)))
+settle zero o f e = e
+settle (suc n) o f e = refl
+
+count-alone : (c : Call) (o : Outcome) → uncounted (call c (uncounted o)) ≡ uncounted (call c o)
+unfolding call calls.begin calls.step calls.cut calls.wake imageAfter
+count-alone (begin u payload) o =
+    settle (beginNumber (view (o .device) (o .image)) u (length payload)) o (λ d. outcome 0 (asBegun u (padded payload) d) (o .image)) refl
+count-alone step o =
+    settle (stepNumber (view (o .device) (o .image))) o
+    (λ d. let i = imageAfter completed d (o .image) in outcome 0 (asStepped (phaseAfter (d .plan) i (d .phase)) d) i)
+    refl
+count-alone (cut m) o =
+    settle (cutNumber (view (o .device) (o .image))) o (λ d. outcome 0 (asCut d) (imageAfter (tornBy m) d (o .image))) refl
+count-alone wake o =
+    settle (wakeNumber (view (o .device) (o .image))) o (λ d. outcome 0 (asWoken (cleanupFrom (d .plan) (o .image) 0) d) (o .image)) refl
+
+alike : (c : Call) (o o′ : Outcome) → uncounted o′ ≡ uncounted o → uncounted (call c o′) ≡ uncounted (call c o)
+alike c o o′ e = sym (count-alone c o′) ∙ ap (λ (x : Outcome). uncounted (call c x)) e ∙ count-alone c o
+
+module _ (p : Plan) (ok : PlanOk p) (before : List ℕ) where
+  -- ---- a start after an accepted cut
+  starts : calls.start p .device ≡ asStarted p
+  unfolding calls.start startNumber
+  starts =
+      let e : startNumber p ≡ 0 = first-skip 1 _ _ (ok .count) ∙ first-skip 2 _ _ (ok .widths) ∙ first-none in
+      rw e
+
+  cut-restarted : (o : Outcome) (m : ℕ) → o .device .plan ≡ p → call (cut m) o .number ≡ 0
+      → restarted p (call (cut m) o) ≡ uncounted (call (cut m) o)
+  unfolding call calls.cut
+  cut-restarted o m plan e =
+      let z : cutNumber (view (o .device) (o .image)) ≡ 0 = accepts _ _ _ _ e in
+      rw (starts, z) (ap (λ (q : Plan). outcome 0 (asStarted q) (imageAfter (tornBy m) (o .device) (o .image))) (sym plan))
+
+  -- ---- along a list: o is what it comes to without a start, o′ what it comes to with some
+  alike-along : {cs : List Call} {o′ end : Outcome} → Leads p cs o′ end → (l : Ledger) (o : Outcome) → Inv p before l o
+      → uncounted o′ ≡ uncounted o → uncounted end ≡ uncounted (run cs o)
+  unfolding run fed told
+  alike-along ended l o inv e = e
+  alike-along {o′ = o′} (called {c = c} t) l o inv e =
+      alike-along t (fed p l c) (call c o) (keeps p ok before l o inv c .kept) (alike c o o′ e)
+  alike-along {o′ = o′} (lost {m = m} t) l o inv e =
+      alike-along t (fed p l (cut m)) (call (cut m) o) (keeps p ok before l o inv (cut m) .kept)
+      (ap uncounted (cut-restarted o′ m (ap (λ (x : Outcome). x .device .plan) e ∙ inv .plan) (ap (λ (x : Outcome). x .number) is ∙ fine))
+      ∙ is)
+    where
+      is : uncounted (call (cut m) o′) ≡ uncounted (call (cut m) o)
+      is = alike (cut m) o o′ e
+
+      fine : call (cut m) o .number ≡ 0
+      fine = keeps p ok before l o inv (cut m) .answer ∙ cut-any (judged p l) ok refl (job-fine p ok before l o inv)
+
+  -- ---- the invariant holds with any count
+  abbrev counting : ℕ → Outcome → Outcome
+  counting n o =
+      outcome (o .number)
+      (record { plan = o .device .plan; payload = o .device .payload; phase = o .device .phase; stores = n })
+      (o .image)
+
+  inv-alike : (l : Ledger) (o o′ : Outcome) → uncounted o′ ≡ uncounted o → Inv p before l o → Inv p before l o′
+  inv-alike l o o′ e i =
+      subst (λ (x : Outcome). Inv p before l (counting (o′ .device .stores) x)) (sym e)
+      (record { plan = i .plan; phase = i .phase; frame = i .frame; mark = i .mark; stage = i .stage })
+
+pub restarting-alike : RestartingAlike
+restarting-alike d image e cs end t =
+    let h = format-opens d image e in
+    alike-along (d .plan) (h .0) image t (opening (d .plan)) (calls.format d image) (h .1) refl
+
+pub power-cut-restarting : PowerCutRestarting
+power-cut-restarting d image e cs m end t =
+    let h = format-opens d image e in
+    let p : Plan = d .plan in
+    let f : Outcome = calls.format d image in
+    let i = along p (h .0) image (closedBy m cs) (opening p) f (h .1) .inv in
+    repaired p (h .0) image _ end
+    (inv-alike p (h .0) image _ (run (closedBy m cs) f) end (restarting-alike d image e (closedBy m cs) end t) i)
+    (ends-cold p (h .0) image cs m (opening p) f (h .1))
+    (ledger-small p (closedBy m cs))
