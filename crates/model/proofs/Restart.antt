@@ -41,20 +41,20 @@ count-alone wake o =
 alike : (c : Call) (o o′ : Outcome) → uncounted o′ ≡ uncounted o → uncounted (call c o′) ≡ uncounted (call c o)
 alike c o o′ e = sym (count-alone c o′) ∙ ap (λ (x : Outcome). uncounted (call c x)) e ∙ count-alone c o
 
-module _ (p : Plan) (ok : PlanOk p) (before : List ℕ) where
-  -- ---- a start after an accepted cut
-  starts : calls.start p .device ≡ asStarted p
-  unfolding calls.start startNumber
-  starts =
-      let e : startNumber p ≡ 0 = first-skip 1 _ _ (ok .count) ∙ first-skip 2 _ _ (ok .widths) ∙ first-none in
-      rw e
+-- ---- a start after an accepted cut
+pub starts : (p : Plan) → PlanOk p → calls.start p ≡ record { number = 0; device = asStarted p }
+unfolding calls.start startNumber
+starts p ok =
+    let e : startNumber p ≡ 0 = first-skip 1 _ _ (ok .count) ∙ first-skip 2 _ _ (ok .widths) ∙ first-none in
+    rw e
 
+module _ (p : Plan) (ok : PlanOk p) (before : List ℕ) where
   cut-restarted : (o : Outcome) (m : ℕ) → o .device .plan ≡ p → call (cut m) o .number ≡ 0
       → restarted p (call (cut m) o) ≡ uncounted (call (cut m) o)
   unfolding call calls.cut
   cut-restarted o m plan e =
       let z : cutNumber (view (o .device) (o .image)) ≡ 0 = accepts _ _ _ _ e in
-      rw (starts, z) (ap (λ (q : Plan). outcome 0 (asStarted q) (imageAfter (tornBy m) (o .device) (o .image))) (sym plan))
+      rw (starts p ok, z) (ap (λ (q : Plan). outcome 0 (asStarted q) (imageAfter (tornBy m) (o .device) (o .image))) (sym plan))
 
   -- ---- along a list: o is what it comes to without a start, o′ what it comes to with some
   alike-along : {cs : List Call} {o′ end : Outcome} → Leads p cs o′ end → (l : Ledger) (o : Outcome) → Inv p before l o

@@ -290,7 +290,7 @@ never-foreign d image e cs m n =
     let h = format-opens d image e in
     image-small (d .plan) (h .0) image (calls.format d image) (h .1) (take n (closedBy m cs))
 
-pub start-accepts : (p : Plan) → calls.start p .number ≡ 0 → (startNumber p ≡ 0) × (calls.start p .device ≡ asStarted p)
+start-accepts : (p : Plan) → calls.start p .number ≡ 0 → (startNumber p ≡ 0) × (calls.start p .device ≡ asStarted p)
 unfolding calls.start
 start-accepts p e = go (startNumber p) e
   where
@@ -298,7 +298,7 @@ start-accepts p e = go (startNumber p) e
     go zero q = (refl, refl)
     go (suc n) q = absurd (omega arith)
 
-formats : (p : Plan) (image : List ℕ) → PlanOk p → total p ≤ length image → calls.format (asStarted p) image .number ≡ 0
+pub formats : (p : Plan) (image : List ℕ) → PlanOk p → total p ≤ length image → calls.format (asStarted p) image .number ≡ 0
 unfolding calls.format
 formats p image ok h =
     rw (format-cold (view (asStarted p) image) ok (le-ltb (length image) (total p) h) refl)

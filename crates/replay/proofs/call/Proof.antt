@@ -1,0 +1,68 @@
+-- `replay::call` meets its contract, by the kind.
+use borrow.Author.Tests.{eq-eqb, ne-eqb}
+use Rattle.model.specs.PowerCut.{call}
+use Rattle.replay.specs.Encoding.{callOf}
+use borrow.Author.Needs.{needs}
+use Rattle.replay.proofs.call.Statement.{statement}
+use Rattle.replay.proofs.call.Tie as tie
+
+begin-requires : tie.Need-begin-requires
+begin-requires c κs = search needs
+
+same-length : tie.Need-same-length
+same-length c = search needs
+
+returns : tie.Need-returns
+unfolding call callOf
+returns c = rw (eq-eqb _ 1 (c .before .before .if1 .taken)) (c .begin .ensures)
+
+first-of-requires : tie.Need-first-of-requires
+first-of-requires c κs = search needs
+
+cut-requires : tie.Need-cut-requires
+cut-requires c κs = search needs
+
+same-length-2 : tie.Need-same-length-2
+same-length-2 c = search needs
+
+returns-2 : tie.Need-returns-2
+unfolding call callOf
+returns-2 c = rw (ne-eqb _ 1 (c .before .before .before .before .before .before .if1 .left), eq-eqb _ 2 (c .before .before .before .before .before .if2 .taken), ← c .before .before .before .first-of .ensures) (c .before .before .cut .ensures)
+
+wake-requires : tie.Need-wake-requires
+wake-requires c κs = search needs
+
+same-length-3 : tie.Need-same-length-3
+same-length-3 c = search needs
+
+returns-3 : tie.Need-returns-3
+unfolding call callOf
+returns-3 c = rw (ne-eqb _ 1 (c .before .before .before .before .if1 .left), ne-eqb _ 2 (c .before .before .before .if2 .left), eq-eqb _ 3 (c .before .before .if3 .taken)) (c .wake .ensures)
+
+step-requires : tie.Need-step-requires
+step-requires c κs = search needs
+
+same-length-4 : tie.Need-same-length-4
+same-length-4 c = search needs
+
+returns-4 : tie.Need-returns-4
+unfolding call callOf
+returns-4 c = rw (ne-eqb _ 1 (c .before .before .before .before .before .before .if1 .left), ne-eqb _ 2 (c .before .before .before .before .before .if2 .left), ne-eqb _ 3 (c .before .before .before .before .if3 .left)) (c .before .before .step .ensures)
+
+pub call-spec : {M : Type 1} → statement M
+call-spec =
+    tie.close
+    (tie.spec
+    begin-requires
+    same-length
+    returns
+    first-of-requires
+    cut-requires
+    same-length-2
+    returns-2
+    wake-requires
+    same-length-3
+    returns-3
+    step-requires
+    same-length-4
+    returns-4)

@@ -1,0 +1,42 @@
+-- THE POWER-CUT THEOREM AS A PROMISE OF THE CODE: what `outage` leaves, in the words of the ledger, the layout and the encoding alone.
+-- No definition of a call is named here or in what is named here, so a mistake made alike in a call and in its definition can't pass.
+use Prim.Native.Nat.{ℕ, _+_, _≤_, _<_}
+use mathlib.Core.Path.{_≡_}
+use mathlib.Core.List.{List, [], _∷_, _++_}
+use mathlib.Core.Bool.{cond}
+use lib.Dec.{eqb}
+use lib.ListN.{length, drop}
+use Rattle.model.specs.declared.Plan.{Plan}
+use Rattle.model.specs.declared.Phase.the-variants.{Ready}
+use Rattle.model.specs.Marker.{OK}
+use Rattle.model.specs.Layout.{Copy, marker, width, total, get, copyOf}
+use Rattle.model.specs.Ledger.{Ledger, cut, opening, after}
+use Rattle.store.specs.declared.Answer.{Answer}
+use Rattle.replay.specs.Encoding.{callsOf}
+
+-- "A plan has a count k, 1 to 8 .. A width w is 1 to 256 bytes. .. The image is .. at least as long as all units together."
+pub record Fits (p : Plan) (image : List ℕ) : Type 0 where
+  pub count : (1 ≤ p .count) × (p .count ≤ 8)
+  pub widths : (u : ℕ) → u < p .count → (1 ≤ width p u) × (width p u ≤ 256)
+  pub long : total p ≤ length image
+
+-- the ledger after the calls, and after the cut that closes them
+abbrev pub ledgerOf : Plan → List ℕ → ℕ → Ledger
+ledgerOf p calls m = after p (opening p) (callsOf calls ++ (cut m ∷ []))
+
+-- the steps that the repair takes: none if the marker of the unit last written is OK, else 1 plus the width of that unit
+abbrev pub repairSteps : Plan → Ledger → ℕ
+repairSteps p l = cond (eqb (l .marker) OK) 0 (1 + width p (l .unit))
+
+-- r is the answer, `left` the image, and `before` the image before format.
+pub record Restored (p : Plan) (before : List ℕ) (l : Ledger) (r : Answer) (left : List ℕ) : Type 0 where
+  pub number : r .number ≡ 0
+  pub phase : r .device .phase ≡ Ready
+  -- the start after the cut set the count to 0, so it is the number of steps
+  pub steps : r .device .stores ≡ repairSteps p l
+  -- every marker is OK, and both copies of every unit are its saved bytes
+  pub markers : (u : ℕ) → u < p .count → get p left u marker ≡ OK
+  pub copies : (u : ℕ) → u < p .count → (c : Copy) → copyOf p left u c ≡ l .saved u
+  -- the bytes after the units, and the image's length, are as they were
+  pub rest : drop (total p) left ≡ drop (total p) before
+  pub size : length left ≡ length before

@@ -1,0 +1,132 @@
+// The lists of calls that the power-cut theorem speaks of, given as bytes and made with the library's own calls; and what a console
+// lives through, with the theorem as its contract.
+ghost use mathlib.Core.Path.{_≡_};
+ghost use Prim.Native.Nat.{ℕ, _+_, _<_};
+ghost use lib.ListN.{length, getD};
+ghost use Rattle.model.specs.Calls.{outcome, asStarted, start, format, wake};
+ghost use Rattle.model.specs.PowerCut.{call, run, closedBy, repair, Repairs};
+ghost use Rattle.store.specs.Modelled.{modelled, Gives};
+ghost use Rattle.replay.specs.Encoding.{two, callOf, callsOf};
+ghost use Rattle.replay.specs.Outage.{Fits, ledgerOf, Restored};
+use layout::width_of;
+use model::Phase;
+use model::Plan;
+use store::Answer;
+use store::Device;
+
+// Two bytes as a number, the high one first.
+fn number_of(high: u8, low: u8) -> u16
+    ensures { λ r. ⌜ r ≡ two high low ⌝ }
+{
+    (high as u16) * 256 + (low as u16)
+}
+
+fn number_at(bytes: &[u8], at: usize) -> u16
+    requires { ⌜ at + 1 < length (now bytes) ⌝ }
+    ensures { λ r. ⌜ r ≡ two (getD (now (bytes .entry)) at 0) (getD (now (bytes .entry)) (at + 1) 0) ⌝ }
+{
+    number_of(bytes[at], bytes[at + 1])
+}
+
+// The first byte, 0 if there is none.
+fn first_of(bytes: &[u8]) -> u8
+    ensures { λ r. ⌜ r ≡ getD (now (bytes .entry)) 0 0 ⌝ }
+{
+    if bytes.len() == 0 {
+        return 0;
+    }
+    bytes[0]
+}
+
+// One call of the list, with its own bytes.
+fn call(device: Device, image: &mut [u8], kind: u8, unit: u16, own: &[u8]) -> Answer
+    ensures { λ r. ⌜ Gives r (now (image .exit))
+        (call (callOf kind unit (now (own .entry))) (outcome 0 (modelled device) (now (image .entry)))) ⌝ }
+{
+    if kind == 1 {
+        return device.begin(image, unit, own);
+    }
+    if kind == 2 {
+        return device.cut(image, first_of(own));
+    }
+    if kind == 3 {
+        return device.wake(image);
+    }
+    device.step(image)
+}
+
+// Makes the calls. The answer has the number of the last one, 0 if there is none, and the device that it left.
+pub fn replay(device: Device, image: &mut [u8], calls: &[u8]) -> Answer
+    ensures { λ r. ⌜ Gives r (now (image .exit))
+        (run (callsOf (now (calls .entry))) (outcome 0 (modelled device) (now (image .entry)))) ⌝ }
+{
+    let mut held = device;
+    let mut number: u16 = 0;
+    let mut at: usize = 0;
+    while 5 <= calls.len() - at {
+        let unit = number_at(calls, at + 1);
+        let size = number_at(calls, at + 3) as usize;
+        let from = at + 5;
+        if calls.len() - from < size {
+            return Answer {
+                device: held,
+                number: number,
+            };
+        }
+        let end = from + size;
+        let after = call(held, image, calls[at], unit, &calls[from..end]);
+        held = after.device;
+        number = after.number;
+        at = end;
+    }
+    Answer {
+        device: held,
+        number: number,
+    }
+}
+
+// A console up to a power cut that leaves m: a formatted device and any calls. The device is lost with the power.
+fn until_cut(plan: Plan, image: &mut [u8], calls: &[u8], m: u8)
+    ensures { λ _. ⌜ now (image .exit)
+        ≡ run (closedBy m (callsOf (now (calls .entry)))) (format (start plan .device) (now (image .entry))) .image ⌝ }
+{
+    let started = Device::start(plan);
+    let formatted = started.device.format(image);
+    let last = replay(formatted.device, image, calls);
+    last.device.cut(image, m);
+}
+
+// The console after it: a start, a wake, and the steps of the repair, which copy a unit and then set its marker.
+fn come_back(plan: Plan, image: &mut [u8]) -> Answer
+    ensures { λ r. ⌜ ((n : ℕ) → start plan ≡ record { number = 0; device = asStarted plan }
+        → wake (asStarted plan) (now (image .entry)) .number ≡ 0 → Repairs plan (now (image .entry)) n
+        → Gives r (now (image .exit)) (run (repair n) (outcome 0 (asStarted plan) (now (image .entry))))) ⌝ }
+{
+    let started = Device::start(plan);
+    if started.number != 0 {
+        return started;
+    }
+    let woken = started.device.wake(image);
+    let next = woken.device;
+    let phase = next.phase;
+    let Phase::Recovering {
+        unit,
+        made: _,
+        direction: _,
+    } = phase
+    else {
+        return woken;
+    };
+    let copied = next.steps(image, width_of(plan, unit));
+    copied.device.step(image)
+}
+
+// What a console lives through: start, format, any calls, and a power cut that leaves m; then start, wake and the exact number of
+// steps. The answer is the last step's, or the wake's if there is none to make.
+pub fn outage(plan: Plan, image: &mut [u8], calls: &[u8], m: u8) -> Answer
+    ensures { λ r. ⌜ (Fits plan (now (image .entry))
+        → Restored plan (now (image .entry)) (ledgerOf plan (now (calls .entry)) m) r (now (image .exit))) ⌝ }
+{
+    until_cut(plan, image, calls, m);
+    come_back(plan, image)
+}
