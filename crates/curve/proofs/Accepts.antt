@@ -12,7 +12,7 @@ use Rattle.model.proofs.Compare.{equal, differ, same}
 use Rattle.token.specs.declared.Kind.the-variants.{Entry}
 use Rattle.token.specs.Token.{lost}
 use Rattle.token.specs.Items.{values-length}
-use Rattle.reader.specs.Read.{lineEnd, lineAt}
+use Rattle.token.specs.Lines.{lineEnd, lineAt}
 use Rattle.curve.specs.Curve.{rowAt, rowOf, inRule, lowerOf, lineNumber, curve, linesFrom, curveOf, levelsGood, passes, badRoom, loadNumber, loaded}
 
 -- what is read of the n lines that are left, after the entries done

@@ -9,7 +9,7 @@ use borrow.Author.Tests.{eq-eqb, ne-eqb, lt-ltb, le-ltb}
 use Rattle.token.specs.declared.Kind.the-variants.{Entry}
 use Rattle.token.specs.Token.{lost}
 use Rattle.token.specs.Items.{valuesAt}
-use Rattle.reader.specs.Read.{lineEnd, lineAt}
+use Rattle.token.specs.Lines.{lineEnd, lineAt}
 use Rattle.curve.specs.Curve.{rowAt, rowOf, inRule, lowerOf, lineNumber, curve, linesFrom}
 
 module _ (i : ℕ) (text : List ℕ) (at : ℕ) (done : List ℕ) where

@@ -8,7 +8,7 @@ use Rattle.bytes.specs.Bytes.{indexOf, indexAfter, slice}
 use Rattle.token.specs.Ascii.{ascii}
 use Rattle.token.specs.Token.{eatAt, wordAt, digitOf, digitAt, extendAt, moreAt, entryAt, itemAt, itemsAt}
 use Rattle.token.specs.Items.{valuesAt}
-use Rattle.reader.specs.Read.{lineEnd, lineAt}
+use Rattle.token.specs.Lines.{lineEnd, lineAt}
 use Rattle.curve.specs.Curve.{rowAt, inRule, lineNumber}
 
 -- a text that begins with `before`, has n entries `0`, each with a space after it, and ends with `after`

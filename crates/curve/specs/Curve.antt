@@ -1,5 +1,5 @@
 -- Ticket 1, 'Brake curves from the bike maker': what a curve's text says, a line at a time, and what is wrong with it.
--- A line is read as the bench reads its script (`crates/script/specs/Line.antt`).
+-- A line is read by the tokens by which the bench reads its script (`crates/token/specs/Token.antt`).
 use Prim.Native.Nat.{ℕ, zero, suc, _+_, _-_}
 use Prim.Native.Char.{code}
 use mathlib.Core.Bool.{Bool, true, cond, not, _&&_, _||_}
@@ -12,7 +12,7 @@ use Rattle.token.specs.declared.Item.{Item}
 use Rattle.token.specs.declared.Items.{Items}
 use Rattle.token.specs.Token.{lost, eatAt, wordAt, entryAt, itemsAt}
 use Rattle.token.specs.Items.{valuesAt}
-use Rattle.reader.specs.Read.{lineEnd, lineAt}
+use Rattle.token.specs.Lines.{lineEnd, lineAt}
 
 -- "each `(level L (..))`, L its line number, with 64 entries of 1 to 5 decimal digits without leading zeros, single spaces":
 -- where the entries of such a line begin, or lost. A line of more than 65,536 bytes, on which `lost` is a place, is none.

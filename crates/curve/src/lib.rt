@@ -9,7 +9,7 @@ ghost use lib.Dec.{ltb, leb};
 ghost use lib.ListN.{length, take, getD};
 ghost use Rattle.token.specs.declared.Kind.the-variants.{Entry};
 ghost use Rattle.token.specs.Items.{valuesAt};
-ghost use Rattle.reader.specs.Read.{lineEnd, lineAt};
+ghost use Rattle.token.specs.Lines.{lineEnd, lineAt};
 ghost use Rattle.curve.specs.Curve.{rowAt, rowOf, inRule, lowerOf, lineNumber, curveOf, loadNumber, loaded};
 
 // The place of the first of a line's 64 entries, or LOST if the line isn't of the form.

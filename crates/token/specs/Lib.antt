@@ -1,3 +1,4 @@
 pub mod Ascii
+pub mod Lines
 pub mod Token
 pub mod Items

@@ -6,7 +6,7 @@ use mathlib.Core.Path.{refl, ap, _∙_}
 use mathlib.Core.List.{_++_}
 use Prim.Native.Nat.{_+_, _-_, _*_}
 use lib.ListN.{take}
-use Rattle.reader.specs.Read.{lineEnd}
+use Rattle.token.specs.Lines.{lineEnd}
 use Rattle.curve.proofs.Lines.{line-missing, line-formless, line-good, line-bad, is-row}
 use Rattle.curve.proofs.line_into.Statement.{statement}
 use Rattle.curve.proofs.line_into.Tie as tie

@@ -4,7 +4,7 @@ use mathlib.Core.Path.{sym, _∙_, ap}
 use borrow.Author.Needs.{needs}
 use Rattle.script.specs.declared.Line.the-variants.{Is}
 use Rattle.script.specs.Counts.{plan-count}
-use Rattle.reader.specs.Read.{read-found}
+use Rattle.reader.proofs.Found.{read-found}
 use Rattle.play.proofs.run.Statement.{statement}
 use Rattle.play.proofs.run.Tie as tie
 

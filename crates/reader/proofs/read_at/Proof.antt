@@ -1,7 +1,8 @@
 -- `reader::read_at` meets its contract: past the end there is no line; inside, the line ends where `find` says.
 use borrow.Author.Needs.{needs}
 use borrow.Author.Tests.{lt-ltb, le-ltb}
-use Rattle.reader.specs.Read.{lineEnd, lineAt, readOf, readAt}
+use Rattle.token.specs.Lines.{lineEnd, lineAt}
+use Rattle.reader.specs.Read.{readOf, readAt}
 use Rattle.reader.proofs.read_at.Statement.{statement}
 use Rattle.reader.proofs.read_at.Tie as tie
 
