@@ -1,12 +1,12 @@
 -- A line's form, by the code's own tests on what it read.
-use Prim.Native.Nat.{ℕ, _≤_, _<_}
+use Prim.Native.Nat.{ℕ}
 use Prim.Native.Char.{code}
 use mathlib.Core.Path.{_≡_, sym, _∙_}
 use mathlib.Core.Bool.{cond, _&&_}
 use mathlib.Core.List.{List}
 use lib.Dec.{eqb}
 use lib.ListN.{length}
-use borrow.Author.Tests.{eq-eqb, ne-eqb, lt-ltb, le-ltb}
+use borrow.Author.Tests.{eq-eqb, ne-eqb}
 use Rattle.token.specs.Ascii.{ascii}
 use Rattle.token.specs.declared.Kind.the-variants.{Entry}
 use Rattle.token.specs.declared.Item.{Item}
@@ -14,17 +14,13 @@ use Rattle.token.specs.declared.Items.{Items}
 use Rattle.token.specs.Token.{lost, eatAt, wordAt, entryAt, itemsAt}
 use Rattle.curve.specs.Curve.{rowAt}
 
-pub row-long : (l : ℕ) (line : List ℕ) → lost ≤ length line → lost ≡ rowAt l line
-unfolding rowAt
-row-long l line h = rw (le-ltb (length line) lost h)
-
--- what the code read of a line that is short enough
-module _ (l : ℕ) (line : List ℕ) (fits : length line < lost) (level : Item) (at : ℕ) (row : Items) (end : ℕ)
+-- what the code read of a line
+module _ (l : ℕ) (line : List ℕ) (level : Item) (at : ℕ) (row : Items) (end : ℕ)
     (el : level ≡ entryAt line (wordAt line 0 (ascii "(level "))) (ea : at ≡ wordAt line (level .next) (ascii " ("))
     (er : row ≡ itemsAt Entry line at 64 0) (ee : end ≡ eatAt line (row .next) (code ")")) where
   judged : rowAt l line ≡ cond (eqb (level .value) l && eqb (row .count) 64 && eqb end (length line)) at lost
   unfolding rowAt
-  judged = rw (ee, er, ea, el, lt-ltb (length line) lost fits)
+  judged = rw (ee, er, ea, el)
 
   pub other-level : ¬ (level .value ≡ l) → lost ≡ rowAt l line
   other-level h = sym (judged ∙ rw (ne-eqb (level .value) l h))

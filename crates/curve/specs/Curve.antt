@@ -15,14 +15,14 @@ use Rattle.token.specs.Items.{valuesAt}
 use Rattle.token.specs.Lines.{lineEnd, lineAt}
 
 -- "each `(level L (..))`, L its line number, with 64 entries of 1 to 5 decimal digits without leading zeros, single spaces":
--- where the entries of such a line begin, or lost. A line of more than 65,536 bytes, on which `lost` is a place, is none.
+-- where the entries of such a line begin, or lost.
 unfoldable pub rowAt : ℕ → List ℕ → ℕ
 rowAt l line =
     let level : Item = entryAt line (wordAt line 0 (ascii "(level ")) in
     let at : ℕ = wordAt line (level .next) (ascii " (") in
     let row : Items = itemsAt Entry line at 64 0 in
     let end : ℕ = eatAt line (row .next) (code ")") in
-    cond (ltb (length line) lost && eqb (level .value) l && eqb (row .count) 64 && eqb end (length line)) at lost
+    cond (eqb (level .value) l && eqb (row .count) 64 && eqb end (length line)) at lost
 
 -- the entries of line l
 abbrev pub rowOf : ℕ → List ℕ → List ℕ

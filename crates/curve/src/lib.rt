@@ -16,9 +16,6 @@ ghost use Rattle.curve.specs.Curve.{rowAt, rowOf, inRule, lowerOf, lineN
 fn row_at(line: &[u8], level: usize) -> usize
     ensures { λ r. ⌜ r ≡ rowAt level (now (line .entry)) ⌝ }
 {
-    if token::LOST <= line.len() {
-        return token::LOST;
-    }
     let number = token::entry(line, token::word(line, 0, b"(level "));
     let value = number.value;
     let at = token::word(line, number.next, b" (");

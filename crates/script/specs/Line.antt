@@ -1,5 +1,5 @@
 -- What a line of a script says: document 01, 'Bench program'. The words of the document stand in quotes.
-use Prim.Native.Nat.{ℕ, _≤_}
+use Prim.Native.Nat.{ℕ, _<_}
 use mathlib.Core.Bool.{cond}
 use mathlib.Core.Path.{_≡_}
 use mathlib.Core.List.{List}
@@ -69,7 +69,7 @@ formOf line =
     or bareOf line (ascii "(wake") Wake
     or bareOf line (ascii "(show") Show
 
--- On a line of at most 65,536 bytes no form ends at `lost`.
-pub lost-bad : (line : List ℕ) → length line ≤ 65536 → (form : Form) → closedAt line lost form ≡ Bad
+-- On a line that a machine's memory holds, no form ends at `lost`.
+pub lost-bad : (line : List ℕ) → length line < lost → (form : Form) → closedAt line lost form ≡ Bad
 unfolding closedAt
-lost-bad line fits form = simp (lost-eats line fits, ne-eqb lost (length line) (λ e. omega arith))
+lost-bad line fits form = simp (lost-eats line (omega arith), ne-eqb lost (length line) (λ e. omega arith))

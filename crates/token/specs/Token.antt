@@ -14,9 +14,9 @@ use Rattle.token.specs.declared.Kind.the-variants.{Byte, Number, Entry}
 use Rattle.token.specs.declared.Item.{Item}
 use Rattle.token.specs.declared.Items.{Items}
 
--- "at most 65,536 bytes": a place that no line has
+-- the largest number of a machine's 64 bits: a place that no line in its memory has
 abbrev pub lost : ℕ
-lost = 65537
+lost = 18446744073709551615
 
 -- the place past a byte
 unfoldable pub eatAt : List ℕ → ℕ → ℕ → ℕ
@@ -92,12 +92,12 @@ itemsAt kind line at (suc most) count =
 unfoldable pub listAt : Kind → List ℕ → ℕ → ℕ → Items
 listAt kind line at most = cond (eqb at lost) (items 0 lost) (endsAt (eatAt line at (code ")")) 0 (itemsAt kind line at most 0))
 
--- On a line of at most 65,536 bytes nothing is read at `lost`.
-module _ (line : List ℕ) (fits : length line ≤ 65536) where
+-- On a line that a machine's memory holds, nothing is read at `lost`.
+module _ (line : List ℕ) (fits : length line ≤ lost) where
   pub lost-eats : (byte : ℕ) → eatAt line lost byte ≡ lost
   unfolding eatAt
-  lost-eats byte = simp (le-ltb lost (length line) (omega arith))
+  lost-eats byte = simp (le-ltb lost (length line) fits)
 
   pub lost-digit : digitAt line lost ≡ 16
   unfolding digitAt
-  lost-digit = simp (le-ltb lost (length line) (omega arith))
+  lost-digit = simp (le-ltb lost (length line) fits)

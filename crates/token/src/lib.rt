@@ -6,8 +6,8 @@ ghost use lib.ListN.{length};
 ghost use Rattle.token.specs.Token.{eatAt, wordAt, digitOf, digitAt, extendAt, hexAt, moreAt, atMost, entryAt, numberAt};
 ghost use Rattle.token.specs.Token.{itemAt, itemsAt, listAt};
 
-// A script has at most 65,536 bytes, so no line of it has this place.
-pub const LOST: usize = 65537;
+// The largest usize: no slice has this place.
+pub const LOST: usize = 18446744073709551615;
 
 // What a list is made of.
 pub enum Kind {
