@@ -11,7 +11,7 @@ use borrow.Author.Tests.{eq-eqb, ne-eqb}
 use Rattle.model.proofs.Compare.{equal, differ, same}
 use Rattle.token.specs.declared.Kind.the-variants.{Entry}
 use Rattle.token.specs.Token.{lost}
-use Rattle.token.specs.Items.{values-length}
+use Rattle.token.proofs.Values.{values-length}
 use Rattle.token.specs.Lines.{lineEnd, lineAt}
 use Rattle.curve.specs.Curve.{rowAt, rowOf, inRule, lowerOf, lineNumber, curve, linesFrom, curveOf, levelsGood, passes, badRoom, loadNumber, loaded}
 

@@ -1,4 +1,3 @@
 pub mod Line
 pub mod Widths
-pub mod Counts
 pub mod Cases

@@ -1,18 +1,15 @@
 -- What a line of a script says: document 01, 'Bench program'. The words of the document stand in quotes.
-use Prim.Native.Nat.{ℕ, _<_}
+use Prim.Native.Nat.{ℕ}
 use mathlib.Core.Bool.{cond}
-use mathlib.Core.Path.{_≡_}
 use mathlib.Core.List.{List}
 use lib.ListN.{length}
 use lib.Dec.{eqb}
-use native.Mathlib.Omega.{arith}
-use borrow.Author.Tests.{ne-eqb}
 use Prim.Native.Char.{code}
 use Rattle.token.specs.Ascii.{ascii}
 use Rattle.token.specs.declared.Kind.the-variants.{Byte, Number}
 use Rattle.token.specs.declared.Item.{Item}
 use Rattle.token.specs.declared.Items.{Items}
-use Rattle.token.specs.Token.{lost, eatAt, wordAt, hexAt, numberAt, listAt, lost-eats}
+use Rattle.token.specs.Token.{eatAt, wordAt, hexAt, numberAt, listAt}
 use Rattle.script.specs.declared.Form.{Form}
 use Rattle.script.specs.declared.Form.the-variants.{Plan, Write, Step, Cut, Wake, Show}
 use Rattle.script.specs.declared.Line.{Line}
@@ -68,8 +65,3 @@ formOf line =
     or cutOf line
     or bareOf line (ascii "(wake") Wake
     or bareOf line (ascii "(show") Show
-
--- On a line that a machine's memory holds, no form ends at `lost`.
-pub lost-bad : (line : List ℕ) → length line < lost → (form : Form) → closedAt line lost form ≡ Bad
-unfolding closedAt
-lost-bad line fits form = simp (lost-eats line (omega arith), ne-eqb lost (length line) (λ e. omega arith))

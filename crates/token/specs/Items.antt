@@ -1,11 +1,7 @@
 -- The values of a list, from the place and the count that its form keeps.
-use Prim.Native.Nat.{ℕ, zero, suc, _≤_}
+use Prim.Native.Nat.{ℕ, zero, suc}
 use Prim.Native.Char.{code}
-use mathlib.Core.Path.{_≡_, refl, ap}
 use mathlib.Core.List.{List, [], _∷_}
-use lib.ListN.{length, take}
-use lib.Seq.{sets, sets-eq, take-at}
-use native.Mathlib.Omega.{arith}
 use Rattle.token.specs.declared.Kind.{Kind}
 use Rattle.token.specs.Token.{itemAt, eatAt}
 
@@ -13,15 +9,3 @@ use Rattle.token.specs.Token.{itemAt, eatAt}
 unfoldable pub valuesAt : Kind → List ℕ → ℕ → ℕ → List ℕ
 valuesAt kind line at zero = []
 valuesAt kind line at (suc count) = itemAt kind line at .value ∷ valuesAt kind line (eatAt line (itemAt kind line at .next) (code " ")) count
-
--- A caller's laws: a list has as many values as its count says, and stored into a buffer they are its front.
-pub values-length : (kind : Kind) (line : List ℕ) (at count : ℕ) → length (valuesAt kind line at count) ≡ count
-unfolding valuesAt
-values-length kind line at zero = refl
-values-length kind line at (suc count) = ap suc (values-length kind line (eatAt line (itemAt kind line at .next) (code " ")) count)
-
-pub values-front : (kind : Kind) (line out : List ℕ) (at count : ℕ) → count ≤ length out
-    → take count (sets out 0 (valuesAt kind line at count)) ≡ valuesAt kind line at count
-values-front kind line out at count h =
-    let n : length (valuesAt kind line at count) ≡ count = values-length kind line at count in
-    rw (sets-eq (valuesAt kind line at count) out 0 (omega arith)) (take-at (valuesAt kind line at count) _ count n)

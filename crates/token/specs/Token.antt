@@ -1,13 +1,10 @@
 -- What stands at a place of a line: a byte, a word, a number, a list. A definition reads the line from a place on, and gives the
 -- place past what it read, or `lost`, where nothing is read any more. The words of document 01, 'Bench program', stand in quotes.
-use Prim.Native.Nat.{ℕ, zero, suc, _+_, _-_, _*_, _≤_}
+use Prim.Native.Nat.{ℕ, zero, suc, _+_, _-_, _*_}
 use mathlib.Core.Bool.{cond, _&&_, _||_}
-use mathlib.Core.Path.{_≡_}
 use mathlib.Core.List.{List, [], _∷_}
 use lib.ListN.{length, getD}
 use lib.Dec.{eqb, ltb, leb}
-use native.Mathlib.Omega.{arith}
-use borrow.Author.Tests.{le-ltb}
 use Prim.Native.Char.{code}
 use Rattle.token.specs.declared.Kind.{Kind}
 use Rattle.token.specs.declared.Kind.the-variants.{Byte, Number, Entry}
@@ -91,13 +88,3 @@ itemsAt kind line at (suc most) count =
 -- "(W ..)", "(HH ..)", after the `(`: none to most items, and `)`
 unfoldable pub listAt : Kind → List ℕ → ℕ → ℕ → Items
 listAt kind line at most = cond (eqb at lost) (items 0 lost) (endsAt (eatAt line at (code ")")) 0 (itemsAt kind line at most 0))
-
--- On a line that a machine's memory holds, nothing is read at `lost`.
-module _ (line : List ℕ) (fits : length line ≤ lost) where
-  pub lost-eats : (byte : ℕ) → eatAt line lost byte ≡ lost
-  unfolding eatAt
-  lost-eats byte = simp (le-ltb lost (length line) fits)
-
-  pub lost-digit : digitAt line lost ≡ 16
-  unfolding digitAt
-  lost-digit = simp (le-ltb lost (length line) fits)

@@ -2,7 +2,7 @@
 use mathlib.Core.Path.{refl, _∙_, ap}
 use borrow.Author.Needs.{needs}
 use Rattle.script.specs.declared.Line.the-variants.{Is}
-use Rattle.script.specs.Counts.{write-count}
+use Rattle.script.proofs.Counts.{write-count}
 use Rattle.play.specs.Plays.{plays}
 use Rattle.play.proofs.Told.{told}
 use Rattle.play.proofs.play.Statement.{statement}

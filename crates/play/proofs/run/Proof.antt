@@ -3,7 +3,7 @@ use native.Mathlib.Omega.{arith}
 use mathlib.Core.Path.{sym, _∙_, ap}
 use borrow.Author.Needs.{needs}
 use Rattle.script.specs.declared.Line.the-variants.{Is}
-use Rattle.script.specs.Counts.{plan-count}
+use Rattle.script.proofs.Counts.{plan-count}
 use Rattle.reader.proofs.Found.{read-found}
 use Rattle.play.proofs.run.Statement.{statement}
 use Rattle.play.proofs.run.Tie as tie
