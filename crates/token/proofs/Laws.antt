@@ -8,6 +8,7 @@ use native.Mathlib.Nat.{mul-le-mul}
 use native.Mathlib.Numerals.{add-one}
 use native.Mathlib.Omega.{arith}
 use Rattle.token.specs.declared.Kind.{Kind}
+use Rattle.token.specs.declared.Item.{Item}
 use Rattle.token.specs.Token.{lost, eatAt, wordAt, itemAt, items, endsAt, itemsAt}
 use Rattle.token.specs.Items.{valuesAt}
 
@@ -37,10 +38,14 @@ pub sets-out : (out : List ℕ) (i : ℕ) (values : List ℕ) → length out ≤
 sets-out out i [] h = refl
 sets-out out i (v ∷ values) h = rw (set-out out i v h) (sets-out out (suc i) values (omega arith))
 
-pub values-step : (kind : Kind) (line out : List ℕ) (at count i : ℕ) → i < count
-    → sets (set out i (itemAt kind line at .value)) (i + 1) (valuesAt kind line (eatAt line (itemAt kind line at .next) 32) (count - (i + 1))) ≡ sets out i (valuesAt kind line at (count - i))
+-- one more value stored: the item that was read, and the place past its space
+pub values-step : (kind : Kind) (line out : List ℕ) (at count i : ℕ) (item : Item) (next : ℕ) → i < count
+    → item ≡ itemAt kind line at → next ≡ eatAt line (item .next) 32
+    → sets (set out i (item .value)) (i + 1) (valuesAt kind line next (count - (i + 1))) ≡ sets out i (valuesAt kind line at (count - i))
 unfolding valuesAt
-values-step kind line out at count i h = let e : count - i ≡ suc (count - (i + 1)) = omega arith in rw (e, add-one)
+values-step kind line out at count i item next h ei en =
+    let e : count - i ≡ suc (count - (i + 1)) = omega arith in
+    rw (en, ei, e, add-one)
 
 pub values-end : (kind : Kind) (line out : List ℕ) (at count i : ℕ) → count ≤ i → out ≡ sets out i (valuesAt kind line at (count - i))
 unfolding valuesAt

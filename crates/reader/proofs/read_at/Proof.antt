@@ -1,4 +1,7 @@
 -- `reader::read_at` meets its contract: past the end there is no line; inside, the line ends where `find` says.
+use native.Mathlib.Omega.{arith}
+use denote.Ref.{now}
+use lib.ListN.{length}
 use borrow.Author.Needs.{needs}
 use borrow.Author.Tests.{lt-ltb, le-ltb}
 use Rattle.token.specs.Lines.{lineEnd, lineAt}
@@ -8,7 +11,8 @@ use Rattle.reader.proofs.read_at.Tie as tie
 
 returns : tie.Need-returns
 unfolding readAt
-returns c = simp (le-ltb _ _ (c .if1 .taken))
+returns c = let a = c .before .before .args in
+    simp (le-ltb (a .at) (length (now (a .text))) (omega (arith, c .if1 .taken)))
 
 find-requires : tie.Need-find-requires
 find-requires c κs = search needs
@@ -33,11 +37,13 @@ enum-told c = search needs
 
 returns-2 : tie.Need-returns-2
 unfolding readAt readOf lineAt lineEnd
-returns-2 c = simp (lt-ltb _ _ (c .before .before .before .before .before .before .if1 .left), ← c .before .before .before .before .before .find .ensures .0, ← c .before .before .before .form-of .ensures, c .before .line .given .1)
+returns-2 c = let a = c .before .before .before .before .before .before .before .before .args in
+    simp (lt-ltb (a .at) (length (now (a .text))) (omega (arith, c .before .before .before .before .before .before .if1 .left)), ← c .before .before .before .before .before .find .ensures .0, ← c .before .before .before .form-of .ensures, c .before .line .given .1)
 
 returns-3 : tie.Need-returns-3
 unfolding readAt readOf lineAt lineEnd
-returns-3 c = simp (lt-ltb _ _ (c .before .before .before .before .before .if1 .left), ← c .before .before .before .before .find .ensures .0, ← c .before .before .form-of .ensures, c .enum-told .given .1)
+returns-3 c = let a = c .before .before .before .before .before .before .before .args in
+    simp (lt-ltb (a .at) (length (now (a .text))) (omega (arith, c .before .before .before .before .before .if1 .left)), ← c .before .before .before .before .find .ensures .0, ← c .before .before .form-of .ensures, c .enum-told .given .1)
 
 pub read-at-spec : {M : Type 1} → statement M
 read-at-spec =

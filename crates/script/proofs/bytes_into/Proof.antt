@@ -48,7 +48,8 @@ loop-less c = search needs
 
 loop-again : tie.Need-loop-again Inv-loop μ-loop
 unfolding itemAt
-loop-again c = (cc (values-step Byte (c .before .before .before .before .before .before .before .before .args .line .now) (c .before .before .before .before .before .loop .out) (c .before .before .before .before .before .loop .p) _ _ (c .before .before .before .before .loop-test .taken)), omega arith, search needs)
+loop-again c = let l = c .before .before .before .before .before .loop in
+    (values-step Byte _ (l .out) (l .p) _ _ _ _ (c .before .before .before .before .loop-test .taken) (c .before .before .hex .ensures .0) (c .eat .ensures) ∙ l .inv .0, omega arith, search needs)
 
 same-length-2 : tie.Need-same-length-2 Inv-loop μ-loop
 same-length-2 c = search needs

@@ -1,4 +1,7 @@
 -- `script::closed` meets its contract: one test.
+use native.Mathlib.Omega.{arith}
+use denote.Ref.{now}
+use lib.ListN.{length}
 use borrow.Author.Needs.{needs}
 use borrow.Author.Tests.{eq-eqb, ne-eqb}
 use Rattle.script.specs.Line.{closedAt}
@@ -10,7 +13,7 @@ eat-requires c κs = search needs
 
 returns : tie.Need-returns
 unfolding closedAt
-returns c = simp (← c .before .eat .ensures, eq-eqb _ _ (c .if1 .taken))
+returns c = simp (← c .before .eat .ensures, eq-eqb (c .before .eat .result) (length (now (c .before .before .before .args .line))) (omega (arith, c .if1 .taken)))
 
 returns-2 : tie.Need-returns-2
 unfolding closedAt

@@ -1,6 +1,7 @@
 -- `script::cut` meets its contract: the calls nest as the definition does.
 use borrow.Author.Needs.{needs}
-use Rattle.script.specs.Line.{cutOf}
+use mathlib.Core.Path.{_∙_}
+use Rattle.script.proofs.Forms.{cut-read}
 use Rattle.script.proofs.cut.Statement.{statement}
 use Rattle.script.proofs.cut.Tie as tie
 
@@ -20,8 +21,7 @@ closed-requires : tie.Need-closed-requires
 closed-requires c κs = search needs
 
 returns : tie.Need-returns
-unfolding cutOf
-returns c = cc
+returns c = c .closed .ensures ∙ cut-read _ _ _ (c .before .before .before .word .ensures) (c .before .before .hex .ensures .0)
 
 pub cut-spec : {M : Type 1} → statement M
 cut-spec =

@@ -1,6 +1,7 @@
 -- `script::plan` meets its contract: the calls nest as the definition does.
 use borrow.Author.Needs.{needs}
-use Rattle.script.specs.Line.{planOf}
+use mathlib.Core.Path.{_∙_}
+use Rattle.script.proofs.Forms.{plan-read}
 use Rattle.script.proofs.plan.Statement.{statement}
 use Rattle.script.proofs.plan.Tie as tie
 
@@ -17,8 +18,7 @@ closed-requires : tie.Need-closed-requires
 closed-requires c κs = search needs
 
 returns : tie.Need-returns
-unfolding planOf
-returns c = cc
+returns c = c .closed .ensures ∙ plan-read _ _ _ (c .before .before .word .ensures) (c .before .list-at .ensures)
 
 pub plan-spec : {M : Type 1} → statement M
 plan-spec =

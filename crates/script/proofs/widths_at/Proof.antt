@@ -50,7 +50,8 @@ loop-less c = search needs
 
 loop-again : tie.Need-loop-again Inv-loop μ-loop
 unfolding itemAt
-loop-again c = (cc (values-step Number (c .before .before .before .before .before .before .before .args .line .now) (c .before .before .before .before .before .loop .widths) (c .before .before .before .before .before .loop .p) _ _ (c .before .before .before .before .loop-test .taken)), omega arith, search needs)
+loop-again c = let l = c .before .before .before .before .before .loop in
+    (values-step Number _ (l .widths) (l .p) _ _ _ _ (c .before .before .before .before .loop-test .taken) (c .before .before .number .ensures .0) (c .eat .ensures) ∙ l .inv .0, omega arith, search needs)
 
 returns-2 : tie.Need-returns-2 Inv-loop μ-loop
 returns-2 c = values-end Number _ _ _ _ _ (c .loop-test .left) ∙ c .before .loop .inv .0

@@ -1,6 +1,7 @@
 -- `script::write` meets its contract: the calls nest as the definition does.
 use borrow.Author.Needs.{needs}
-use Rattle.script.specs.Line.{writeOf}
+use mathlib.Core.Path.{_∙_}
+use Rattle.script.proofs.Forms.{write-read}
 use Rattle.script.proofs.write.Statement.{statement}
 use Rattle.script.proofs.write.Tie as tie
 
@@ -29,8 +30,7 @@ closed-requires : tie.Need-closed-requires
 closed-requires c κs = search needs
 
 returns : tie.Need-returns
-unfolding writeOf
-returns c = cc
+returns c = c .closed .ensures ∙ write-read _ _ _ _ _ (c .before .before .before .before .before .before .word .ensures) (c .before .before .before .before .before .number .ensures .0) (c .before .before .before .word2 .ensures) (c .before .before .list-at .ensures)
 
 pub write-spec : {M : Type 1} → statement M
 write-spec =
