@@ -4,38 +4,25 @@ use libc::STDOUT_FILENO;
 use model::Inspection;
 use model::Plan;
 use store::Device;
-ghost use Prim.Native.Nat.{_<_};
 
-// A word and a number of at most two digits.
 fn say(word: &[u8], number: u16) {
     io::write_all(STDOUT_FILENO, word);
-    let tens = (number / 10 % 10) as u8;
-    let ones = (number % 10) as u8;
-    if tens == 0 {
-        io::write_all(STDOUT_FILENO, &[b' ', b'0' + ones, b'\n']);
-        return;
-    }
-    io::write_all(STDOUT_FILENO, &[b' ', b'0' + tens, b'0' + ones, b'\n']);
+    io::write_all(STDOUT_FILENO, b" ");
+    io::print_decimal(STDOUT_FILENO, number as u64);
+    io::write_all(STDOUT_FILENO, b"\n");
 }
 
-fn digit_of(value: u8) -> u8
-    requires { ⌜ value < 16 ⌝ }
-{
-    if value < 10 {
-        b'0' + value
-    } else {
-        b'a' + (value - 10)
-    }
+// A byte in hexadecimal, after a space.
+fn say_byte(byte: u8) {
+    io::write_all(STDOUT_FILENO, b" ");
+    io::print_hex(STDOUT_FILENO, byte as u64, 2);
 }
 
-// Each byte in hexadecimal, after a space.
 fn say_image(image: &[u8]) {
     io::write_all(STDOUT_FILENO, b"image");
     let mut i: usize = 0;
     while i < image.len() {
-        let byte = image[i];
-        let text = [b' ', digit_of(byte / 16 % 16), digit_of(byte % 16)];
-        io::write_all(STDOUT_FILENO, &text);
+        say_byte(image[i]);
         i = i + 1;
     }
     io::write_all(STDOUT_FILENO, b"\n");
