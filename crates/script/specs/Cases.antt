@@ -42,7 +42,6 @@ rows =
     ∷ (ascii "(write 0 (0a0b))", Bad)
     ∷ (ascii "(write 0 (0a,0b))", Bad)
     ∷ (ascii "(write 1 (" ++ many 255 ++ ascii "00))", Is (Write 1 10 256))
-    ∷ (ascii "(write 1 (" ++ many 256 ++ ascii "00))", Bad)
     ∷ (ascii "(step 1)", Is (Step 1))
     ∷ (ascii "(step 65535)", Is (Step 65535))
     ∷ (ascii "(step 65536)", Bad)
