@@ -17,7 +17,7 @@ use Rattle.script.specs.declared.Form.the-variants.{Plan, Write, Step, C
 use Rattle.script.specs.declared.Line.{Line}
 use Rattle.script.specs.declared.Line.the-variants.{Is, Bad}
 use Rattle.token.specs.Token.{lost, eatAt, wordAt, numberAt, itemAt, items, endsAt, itemsAt, listAt}
-use Rattle.script.specs.Line.{closedAt, planOf, writeOf, stepOf, cutOf, bareOf, _or_, formOf}
+use Rattle.script.specs.Line.{closedAt, planOf, writeOf, stepOf, cutOf, bareOf, _or_, shortFormOf, formOf}
 
 -- "0 to 16 widths", "0 to 256 bytes"
 abbrev Counted : Line → Type 0
@@ -83,7 +83,7 @@ unfolding cutOf
 cut-counted line = closed-counted line _ _ tt
 
 counted : (line : List ℕ) → Counted (formOf line)
-unfolding formOf bareOf
+unfolding formOf shortFormOf bareOf
 counted line =
     or-counted _ _ (plan-counted line) (or-counted _ _ (write-counted line) (or-counted _ _ (step-counted line) (or-counted _ _ (cut-counted line)
     (or-counted _ _ (closed-counted line _ Wake tt) (closed-counted line _ Show tt)))))

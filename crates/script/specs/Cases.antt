@@ -8,7 +8,7 @@ use Rattle.script.specs.declared.Line.{Line}
 use Rattle.script.specs.declared.Line.the-variants.{Is, Bad}
 use Rattle.token.specs.Ascii.{ascii}
 use Rattle.token.specs.Token.{eatAt, wordAt, digitOf, digitAt, extendAt, hexAt, moreAt, atMost, entryAt, numberAt, itemAt, itemsAt, listAt}
-use Rattle.script.specs.Line.{closedAt, planOf, writeOf, stepOf, cutOf, bareOf, _or_, formOf}
+use Rattle.script.specs.Line.{closedAt, planOf, writeOf, stepOf, cutOf, bareOf, _or_, shortFormOf, formOf}
 use Rattle.token.specs.Items.{valuesAt}
 use Rattle.script.specs.Widths.{widthsAt}
 
@@ -72,7 +72,7 @@ rows =
     ∷ []
 
 pub lines : map (λ (row : List ℕ × Line). formOf (row .0)) rows ≡ map (λ (row : List ℕ × Line). row .1) rows
-unfolding rows formOf _or_ bareOf cutOf stepOf writeOf planOf closedAt listAt itemsAt itemAt entryAt numberAt atMost moreAt hexAt extendAt digitAt digitOf wordAt eatAt
+unfolding rows formOf shortFormOf _or_ bareOf cutOf stepOf writeOf planOf closedAt listAt itemsAt itemAt entryAt numberAt atMost moreAt hexAt extendAt digitAt digitOf wordAt eatAt
 lines = refl
 
 -- the values of a list, bytes and widths

@@ -56,12 +56,10 @@ unfoldable pub _or_ : Line → Line → Line
 Is form or other = Is form
 Bad or other = other
 
+-- the forms without a list
+unfoldable pub shortFormOf : List ℕ → Line
+shortFormOf line = stepOf line or cutOf line or bareOf line (ascii "(wake") Wake or bareOf line (ascii "(show") Show
+
 -- "Any line that isn't one of these forms prints `bad`"
 unfoldable pub formOf : List ℕ → Line
-formOf line =
-    planOf line
-    or writeOf line
-    or stepOf line
-    or cutOf line
-    or bareOf line (ascii "(wake") Wake
-    or bareOf line (ascii "(show") Show
+formOf line = planOf line or writeOf line or shortFormOf line

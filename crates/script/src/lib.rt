@@ -3,7 +3,7 @@ ghost use mathlib.Core.Path.{_≡_};
 ghost use lib.Seq.{sets};
 ghost use Rattle.token.specs.declared.Kind.the-variants.{Byte};
 ghost use Rattle.token.specs.Items.{valuesAt};
-ghost use Rattle.script.specs.Line.{closedAt, planOf, writeOf, stepOf, cutOf, bareOf, _or_, formOf};
+ghost use Rattle.script.specs.Line.{closedAt, planOf, writeOf, stepOf, cutOf, bareOf, _or_, shortFormOf, formOf};
 ghost use Rattle.script.specs.Widths.{widthsAt};
 use token::Kind;
 use token::eat;
@@ -110,24 +110,20 @@ fn or(first: Line, other: Line) -> Line
     }
 }
 
-// The form that a line is. A form is looked for only where none before it was found.
+// The forms without a list.
+fn short_form_of(line: &[u8]) -> Line
+    ensures { λ r. ⌜ r ≡ shortFormOf (now (line .entry)) ⌝ }
+{
+    let wake = bare(line, b"(wake", Form::Wake);
+    let show = bare(line, b"(show", Form::Show);
+    or(step(line), or(cut(line), or(wake, show)))
+}
+
+// The form that a line is.
 pub fn form_of(line: &[u8]) -> Line
     ensures { λ r. ⌜ r ≡ formOf (now (line .entry)) ⌝ }
 {
-    if let Line::Is(form) = plan(line) {
-        return Line::Is(form);
-    }
-    if let Line::Is(form) = write(line) {
-        return Line::Is(form);
-    }
-    if let Line::Is(form) = step(line) {
-        return Line::Is(form);
-    }
-    if let Line::Is(form) = cut(line) {
-        return Line::Is(form);
-    }
-    let wake = bare(line, b"(wake", Form::Wake);
-    or(wake, bare(line, b"(show", Form::Show))
+    or(plan(line), or(write(line), short_form_of(line)))
 }
 
 // The bytes of a list, into the front of out, as far as out reaches.
