@@ -55,17 +55,27 @@ fn come_up(image: &mut [u8]) {
     say(b"format", formatted.number);
 }
 
-// A Ready device finds a foreign unit 0: begin and read give 8 there, and unit 1 is as before.
+// Begin and read give 8 at the foreign unit 0, and wake is refused.
+fn say_foreign(ready: Device, image: &[u8]) {
+    say(b"wake", ready.wake(image).number);
+    say(b"begin", ready.begin(image, 0, b"xy").number);
+    say(b"read", ready.read_number(image, 0));
+}
+
+// Unit 1 is as before.
+fn say_own(ready: Device, image: &mut [u8]) {
+    say(b"begin", ready.begin(&image[..], 1, b"z").number);
+    say(b"cut", ready.cut(&mut image[..], 255).number);
+    say_image(&image[..]);
+}
+
+// A Ready device finds a foreign unit 0.
 fn find(image: &mut [u8]) {
     let mut own = [0u8; 8];
     let formatted = started().format(&mut own);
     let ready = formatted.device;
-    say(b"wake", ready.wake(&image[..]).number);
-    say(b"begin", ready.begin(&image[..], 0, b"xy").number);
-    say(b"read", ready.read_number(&image[..], 0));
-    say(b"begin", ready.begin(&image[..], 1, b"z").number);
-    say(b"cut", ready.cut(&mut image[..], 255).number);
-    say_image(&image[..]);
+    say_foreign(ready, &image[..]);
+    say_own(ready, &mut image[..]);
 }
 
 // A step takes a foreign marker for X: unit 0 is cleaned up, then unit 1, A to B.
