@@ -1,4 +1,5 @@
 -- `script::step` meets its contract: the calls nest as the definition does, and 0 is refused.
+use native.Mathlib.Omega.{arith}
 use borrow.Author.Needs.{needs}
 use borrow.Author.Tests.{eq-eqb, ne-eqb}
 use Rattle.script.specs.Line.{stepOf}
@@ -16,7 +17,7 @@ number-requires c κs = search needs
 
 returns : tie.Need-returns
 unfolding stepOf
-returns c = simp (← c .before .before .before .word .ensures, ← c .before .before .number .ensures .0, eq-eqb _ _ (c .if1 .taken))
+returns c = simp (← c .before .before .before .word .ensures, ← c .before .before .number .ensures .0, eq-eqb (c .before .before .number .result .value) 0 (omega (arith, c .if1 .taken)))
 
 cast-t8 : tie.Need-cast-t8
 cast-t8 c = search needs
@@ -26,7 +27,7 @@ closed-requires c κs = search needs
 
 returns-2 : tie.Need-returns-2
 unfolding stepOf
-returns-2 c = simp (← c .before .before .before .before .before .word .ensures, ← c .before .before .before .before .number .ensures .0, ne-eqb _ _ (c .before .before .if1 .left), c .closed .ensures)
+returns-2 c = simp (← c .before .before .before .before .before .word .ensures, ← c .before .before .before .before .number .ensures .0, ne-eqb (c .before .before .before .before .number .result .value) 0 (λ z. absurd (omega (arith, c .before .before .if1 .left, z))), c .closed .ensures)
 
 pub step-spec : {M : Type 1} → statement M
 step-spec =

@@ -19,7 +19,7 @@ returns-2 c = (simp (le-leb 48 _ (c .before .if1 .left), le-leb _ 57 (c .if2 .ta
 
 returns-3 : tie.Need-returns-3
 unfolding digitOf
-returns-3 c = (simp (le-leb 48 _ (c .before .before .if1 .left), lt-leb _ 57 (c .before .if2 .left), lt-leb 97 _ (c .if3 .taken)), omega arith)
+returns-3 c = (simp (le-leb 48 _ (c .before .before .if1 .left), lt-leb _ 57 (c .before .if2 .left), lt-leb 97 (c .before .before .before .args .byte) (omega (arith, c .if3 .taken))), omega arith)
 
 cast-result-2 : tie.Need-cast-result-2
 cast-result-2 c = search needs
@@ -29,11 +29,11 @@ add-result c = search needs
 
 returns-4 : tie.Need-returns-4
 unfolding digitOf
-returns-4 c = (simp (le-leb 48 _ (c .before .before .before .if1 .left), lt-leb _ 57 (c .before .before .if2 .left), le-leb 97 _ (c .before .if3 .left), le-leb _ 102 (c .if4 .taken)), omega arith)
+returns-4 c = (simp (le-leb 48 _ (c .before .before .before .if1 .left), lt-leb _ 57 (c .before .before .if2 .left), le-leb 97 (c .before .before .before .before .args .byte) (omega (arith, c .before .if3 .left)), le-leb _ 102 (c .if4 .taken)), omega arith)
 
 returns-5 : tie.Need-returns-5
 unfolding digitOf
-returns-5 c = (simp (le-leb 48 _ (c .before .before .before .if1 .left), lt-leb _ 57 (c .before .before .if2 .left), le-leb 97 _ (c .before .if3 .left), lt-leb _ 102 (c .if4 .left)), omega arith)
+returns-5 c = (simp (le-leb 48 _ (c .before .before .before .if1 .left), lt-leb _ 57 (c .before .before .if2 .left), le-leb 97 (c .before .before .before .before .args .byte) (omega (arith, c .before .if3 .left)), lt-leb _ 102 (c .if4 .left)), omega arith)
 
 pub digit-of-spec : {M : Type 1} → statement M
 digit-of-spec =

@@ -20,7 +20,7 @@ more-requires-3 : tie.Need-more-requires-3
 more-requires-3 c κs = search needs
 
 more-requires-4 : tie.Need-more-requires-4
-more-requires-4 c κs = search needs
+more-requires-4 c κs = omega arith
 
 returns : tie.Need-returns
 unfolding entryAt
