@@ -43,16 +43,16 @@ numbered word number = word ++ ascii " " ++ decimal number
 unfoldable pub answerLine : List ℕ → ℕ → List ℕ
 answerLine word number = numbered word number ++ ascii "\n"
 
--- a word and its HH bytes in brackets, as ` (a 0a 0b)`
+-- a word and its HH bytes up to `)`, as ` (a 0a 0b)`
 unfoldable pub listed : List ℕ → List ℕ → List ℕ
-listed word bytes = ascii " (" ++ word ++ bytesText bytes ++ ascii ")"
+listed word bytes = word ++ bytesText bytes ++ ascii ")"
 
 unfoldable pub unitText : ℕ → List ℕ → List ℕ → List ℕ → List ℕ
 unitText number log a b =
     numbered (ascii "(unit") number
-    ++ listed (ascii "log") log
-    ++ listed (ascii "a") a
-    ++ listed (ascii "b") b
+    ++ listed (ascii " (log") log
+    ++ listed (ascii " (a") a
+    ++ listed (ascii " (b") b
     ++ ascii ")\n"
 
 -- "Show prints a line a unit: its decimal number, then marker, A and B as HH bytes."

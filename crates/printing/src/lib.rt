@@ -115,14 +115,13 @@ pub fn put_answer(out: &mut [u8], at: usize, word: &[u8], number: usize) -> usiz
     put(out, place, b'\n')
 }
 
-// A word and bytes, in brackets.
+// A word that begins with a bracket, its bytes, and the bracket that ends them.
 fn put_list(out: &mut [u8], at: usize, word: &[u8], bytes: &[u8]) -> usize
-    requires { ⌜ at + 3 + length (now word) + 3 * length (now bytes) ≤ length (now out) ⌝ }
+    requires { ⌜ at + 1 + length (now word) + 3 * length (now bytes) ≤ length (now out) ⌝ }
     ensures { λ r. ⌜ Wrote (now (out .entry)) at (listed (now (word .entry)) (now (bytes .entry))) (now (out .exit)) r
-        × (r ≡ at + 3 + length (now (word .entry)) + 3 * length (now (bytes .entry))) ⌝ }
+        × (r ≡ at + 1 + length (now (word .entry)) + 3 * length (now (bytes .entry))) ⌝ }
 {
-    let place = put_text(out, at, b" (");
-    let place = put_text(out, place, word);
+    let place = put_text(out, at, word);
     let place = put_bytes(out, place, bytes);
     put(out, place, b')')
 }
@@ -136,9 +135,9 @@ fn put_parts(out: &mut [u8], at: usize, number: usize, log: &[u8], a: &[u8], b: 
         × (r ≤ at + 27 + 3 * length (now (log .entry)) + 3 * length (now (a .entry)) + 3 * length (now (b .entry))) ⌝ }
 {
     let place = put_numbered(out, at, b"(unit", number);
-    let place = put_list(out, place, b"log", log);
-    let place = put_list(out, place, b"a", a);
-    let place = put_list(out, place, b"b", b);
+    let place = put_list(out, place, b" (log", log);
+    let place = put_list(out, place, b" (a", a);
+    let place = put_list(out, place, b" (b", b);
     put_text(out, place, b")\n")
 }
 

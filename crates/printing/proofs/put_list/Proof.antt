@@ -1,4 +1,4 @@
--- `printing::put_list` meets its contract: the four pieces one after the other.
+-- `printing::put_list` meets its contract: the three pieces one after the other.
 use native.Mathlib.Omega.{arith}
 use borrow.Author.Needs.{needs}
 use Rattle.printing.specs.Text.{listed}
@@ -6,14 +6,8 @@ use Rattle.printing.proofs.Laws.{wrote-then}
 use Rattle.printing.proofs.put_list.Statement.{statement}
 use Rattle.printing.proofs.put_list.Tie as tie
 
-slice-aggregate-put-text : tie.Need-slice-aggregate-put-text
-slice-aggregate-put-text c = search needs
-
 put-text-requires : tie.Need-put-text-requires
 put-text-requires c κs = search needs
-
-put-text-requires-2 : tie.Need-put-text-requires-2
-put-text-requires-2 c κs = search needs
 
 put-bytes-requires : tie.Need-put-bytes-requires
 put-bytes-requires c κs = search needs
@@ -26,15 +20,13 @@ same-length c = search needs
 
 returns : tie.Need-returns
 unfolding listed
-returns c = (wrote-then (wrote-then (wrote-then (c .before .before .before .before .before .before .before .before .before .before .before .before .before .before .put-text .ensures) (c .before .before .before .before .before .before .before .before .before .before .put-text2 .ensures)) (c .before .before .before .before .before .before .put-bytes .ensures .0)) (c .before .before .put .ensures), omega arith)
+returns c = (wrote-then (wrote-then (c .before .before .before .before .before .before .before .before .before .before .put-text .ensures) (c .before .before .before .before .before .before .put-bytes .ensures .0)) (c .before .before .put .ensures), omega arith)
 
 pub put-list-spec : {M : Type 1} → statement M
 put-list-spec =
     tie.close
     (tie.spec
-    slice-aggregate-put-text
     put-text-requires
-    put-text-requires-2
     put-bytes-requires
     put-requires
     same-length
