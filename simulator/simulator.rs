@@ -23,6 +23,7 @@ enum Refusal {
     NoSuchUnit = 6,
     PayloadLength = 7,
     MarkerNotOk = 8,
+    ForeignMarker = 14,
 }
 
 type Answer = Result<(), Refusal>;
@@ -50,6 +51,10 @@ fn refuse_if(condition: bool, refusal: Refusal) -> Answer {
 const OK: u8 = 1;
 const WRITING_A: u8 = 2;
 const WRITING_B: u8 = 4;
+
+/// From here on a marker is no torn one of this console, but foreign. Only
+/// wake tells it apart; to every other call it is an X like the rest.
+const FIRST_FOREIGN: u8 = 8;
 
 // -------------------------------------------------------------------- plan
 
@@ -192,6 +197,10 @@ impl Device {
         self.phase.check(&self.plan)
     }
 
+    fn marker(&self, unit: usize, image: &[u8]) -> u8 {
+        image[self.plan.marker_place(unit)]
+    }
+
     /// The store that step makes and cut tears; none in Cold and Ready.
     fn next_store(&self, image: &[u8]) -> Option<Store> {
         match self.phase {
@@ -240,7 +249,7 @@ impl Device {
     /// or Ready. Its marker as it is now sets the direction.
     fn cleanup_from(&self, first: usize, image: &[u8]) -> Phase {
         for unit in first..self.plan.count {
-            let direction = match image[self.plan.marker_place(unit)] {
+            let direction = match self.marker(unit, image) {
                 OK => continue,
                 WRITING_A => Direction::BToA,
                 _ => Direction::AToB,
@@ -300,7 +309,7 @@ fn begin(device: &mut Device, image: &[u8], unit: usize, payload: &[u8]) -> Answ
     refuse_if(!matches!(device.phase, Phase::Ready), Refusal::WrongPhase)?;
     refuse_if(unit >= plan.count, Refusal::NoSuchUnit)?;
     refuse_if(payload.len() != plan.width(unit), Refusal::PayloadLength)?;
-    refuse_if(image[plan.marker_place(unit)] != OK, Refusal::MarkerNotOk)?;
+    refuse_if(device.marker(unit, image) != OK, Refusal::MarkerNotOk)?;
     device.payload.fill(0);
     device.payload[..payload.len()].copy_from_slice(payload);
     device.phase = Phase::Writing { unit, made: 0 };
@@ -318,6 +327,8 @@ fn step(device: &mut Device, image: &mut [u8]) -> Answer {
 fn wake(device: &mut Device, image: &[u8]) -> Answer {
     device.check(image)?;
     refuse_if(!matches!(device.phase, Phase::Cold), Refusal::WrongPhase)?;
+    let is_foreign = |unit| device.marker(unit, image) >= FIRST_FOREIGN;
+    refuse_if((0..device.plan.count).any(is_foreign), Refusal::ForeignMarker)?;
     device.phase = device.cleanup_from(0, image);
     Ok(())
 }
