@@ -4,6 +4,10 @@
 //! against that of the bench program: for every script the two must agree to
 //! the byte. It reads a script from standard input and plays it to standard
 //! output. Build: `rustc --edition 2021 -O -o simulator simulator.rs`
+//!
+//! With the argument `looks` a script may also ask for what no bench script
+//! reaches: the brake drive, read and inspect. With `--selftest` it tries
+//! itself on cases worked out by hand.
 
 use std::io::{self, Read, Write};
 use std::ops::Range;
@@ -11,8 +15,7 @@ use std::process::ExitCode;
 
 // ---------------------------------------------------------------- refusals
 
-/// Why a call was refused; the value is the answer number. The bench program
-/// never asks for a drive, so 9 and 10 have no place here.
+/// Why a call was refused; the value is the answer number.
 #[derive(Clone, Copy)]
 enum Refusal {
     UnitCount = 1,
@@ -23,6 +26,8 @@ enum Refusal {
     NoSuchUnit = 6,
     PayloadLength = 7,
     MarkerNotOk = 8,
+    Level = 9,
+    Rate = 10,
     ForeignMarker = 14,
 }
 
@@ -343,6 +348,38 @@ fn cut(device: &mut Device, image: &mut [u8], m: u8) -> Answer {
     Ok(())
 }
 
+// ------------------------------------------------------------------- looks
+// Calls that only look: they change neither the device nor the image.
+
+/// Copy A of the unit, as the image has it.
+fn read<'a>(device: &Device, image: &'a [u8], unit: usize) -> Result<&'a [u8], Refusal> {
+    device.check(image)?;
+    refuse_if(!matches!(device.phase, Phase::Ready), Refusal::WrongPhase)?;
+    refuse_if(unit >= device.plan.count, Refusal::NoSuchUnit)?;
+    refuse_if(device.marker(unit, image) != OK, Refusal::MarkerNotOk)?;
+    Ok(&image[device.plan.copy_a(unit)])
+}
+
+/// The lowest unit whose marker isn't 1, in whatever phase.
+fn inspect(device: &Device, image: &[u8]) -> Result<Option<usize>, Refusal> {
+    device.check(image)?;
+    Ok((0..device.plan.count).find(|&unit| device.marker(unit, image) != OK))
+}
+
+// ------------------------------------------------------------- brake drive
+
+const MAX_LEVEL: u16 = 20;
+const MAX_RATE: u16 = 255;
+const BINS: u16 = 64;
+
+/// The bin is floor(r / 4), and only the whole product l × c is halved.
+fn drive(level: u16, rate: u16) -> Result<u16, Refusal> {
+    refuse_if(level == 0 || level > MAX_LEVEL, Refusal::Level)?;
+    refuse_if(rate > MAX_RATE, Refusal::Rate)?;
+    let bin = rate / 4;
+    Ok(100 + 160 * level + (level * bin) / 2)
+}
+
 // ------------------------------------------------------------- line parser
 
 const MAX_SCRIPT_WIDTHS: usize = 16;
@@ -356,6 +393,23 @@ enum Form {
     Cut { m: u8 },
     Wake,
     Show,
+    Look(Look),
+}
+
+/// The forms of the mode `looks`, which the bench program has not.
+enum Look {
+    Drive { level: u16, rate: u16 },
+    Drives,
+    Read { unit: u16 },
+    Inspect,
+    Set { place: usize, byte: u8 },
+}
+
+/// Which forms a script may have.
+#[derive(Clone, Copy)]
+enum Mode {
+    Bench,
+    Looks,
 }
 
 /// What is left of a line. Every reader below takes its piece off the front,
@@ -430,8 +484,16 @@ fn parse_plan(line: &[u8]) -> Option<Plan> {
     Some(Plan::from_script(&widths))
 }
 
-/// Reads any later line, without its LF; None if it is not one of the forms.
-fn parse_form(line: &[u8]) -> Option<Form> {
+/// Reads any later line, without its LF; None if it is not one of the forms
+/// that the mode has.
+fn parse_form(line: &[u8], mode: Mode, image_length: usize) -> Option<Form> {
+    parse_bench_form(line).or_else(|| match mode {
+        Mode::Bench => None,
+        Mode::Looks => parse_look(line, image_length).map(Form::Look),
+    })
+}
+
+fn parse_bench_form(line: &[u8]) -> Option<Form> {
     let mut line = Line { rest: line };
     let form = if line.text(b"(show").is_some() {
         Form::Show
@@ -449,6 +511,28 @@ fn parse_form(line: &[u8]) -> Option<Form> {
     };
     line.close()?;
     Some(form)
+}
+
+fn parse_look(line: &[u8], image_length: usize) -> Option<Look> {
+    let mut line = Line { rest: line };
+    let look = if line.text(b"(drives").is_some() {
+        Look::Drives
+    } else if line.text(b"(drive ").is_some() {
+        let level = line.decimal()?;
+        line.text(b" ")?;
+        Look::Drive { level, rate: line.decimal()? }
+    } else if line.text(b"(read ").is_some() {
+        Look::Read { unit: line.decimal()? }
+    } else if line.text(b"(inspect").is_some() {
+        Look::Inspect
+    } else {
+        line.text(b"(set ")?;
+        let place = line.decimal().map(usize::from).filter(|&place| place < image_length)?;
+        line.text(b" ")?;
+        Look::Set { place, byte: line.hex_byte()? }
+    };
+    line.close()?;
+    Some(look)
 }
 
 /// The script's lines without their LF. What follows the last LF is a line
@@ -510,7 +594,13 @@ impl<W: Write> Printer<W> {
         self.gathered.truncate(end);
     }
 
-    /// A line of a word and a decimal number, the answer of every form but show.
+    fn line(&mut self, line: &str) -> io::Result<()> {
+        writeln!(self.gathered, "{line}")?;
+        self.line_done()
+    }
+
+    /// A line of a word and a decimal number, the answer of every form of the
+    /// bench program but show.
     fn word(&mut self, word: &str, number: usize) -> io::Result<()> {
         writeln!(self.gathered, "{word} {number}")?;
         self.line_done()
@@ -549,7 +639,7 @@ const MAX_SCRIPT: usize = 65_536;
 
 /// Plays a whole script. Lines are read and run one by one, so what was
 /// printed before a bad line stays.
-fn play<W: Write>(script: &[u8], printer: &mut Printer<W>) -> io::Result<()> {
+fn play<W: Write>(script: &[u8], mode: Mode, printer: &mut Printer<W>) -> io::Result<()> {
     if script.len() > MAX_SCRIPT {
         return printer.word("bad", 0);
     }
@@ -562,7 +652,9 @@ fn play<W: Write>(script: &[u8], printer: &mut Printer<W>) -> io::Result<()> {
     };
     printer.word("plan", 0)?;
     for (line_number, line) in numbered {
-        let Some(form) = parse_form(line) else { return printer.word("bad", line_number) };
+        let Some(form) = parse_form(line, mode, image.len()) else {
+            return printer.word("bad", line_number);
+        };
         run(form, &mut device, &mut image, printer)?;
     }
     Ok(())
@@ -597,8 +689,63 @@ fn run<W: Write>(
             }
             return Ok(());
         }
+        Form::Look(look) => return run_look(look, device, image, printer),
     };
     printer.word(word, usize::from(number(answer)))
+}
+
+/// Runs one line that only the mode `looks` has and prints what it prints.
+fn run_look<W: Write>(
+    look: Look,
+    device: &Device,
+    image: &mut [u8],
+    printer: &mut Printer<W>,
+) -> io::Result<()> {
+    match look {
+        Look::Drive { level, rate } => printer.line(&drive_line(drive(level, rate))),
+        Look::Drives => (1..=MAX_LEVEL).try_for_each(|level| printer.line(&level_line(level))),
+        Look::Read { unit } => {
+            printer.line(&read_line(read(device, image, usize::from(unit))))
+        }
+        Look::Inspect => printer.line(&inspect_line(inspect(device, image))),
+        Look::Set { place, byte } => {
+            image[place] = byte;
+            Ok(())
+        }
+    }
+}
+
+/// A refused drive is 0.
+fn drive_line(answer: Result<u16, Refusal>) -> String {
+    match answer {
+        Ok(drive) => format!("drive 0 {drive}"),
+        Err(refusal) => format!("drive {} 0", refusal as u8),
+    }
+}
+
+/// The level's drives from bin 0 on, each taken at the lowest rate of its bin.
+fn level_line(level: u16) -> String {
+    let drives = (0..BINS).map(|bin| format!(" {}", drive(level, 4 * bin).unwrap_or(0)));
+    format!("level {level}{}", drives.collect::<String>())
+}
+
+/// A refused read shows no bytes, not even empty brackets.
+fn read_line(answer: Result<&[u8], Refusal>) -> String {
+    match answer {
+        Ok(bytes) => {
+            let digits: Vec<String> = bytes.iter().map(|byte| format!("{byte:02x}")).collect();
+            format!("read 0 ({})", digits.join(" "))
+        }
+        Err(refusal) => format!("read {}", refusal as u8),
+    }
+}
+
+fn inspect_line(answer: Result<Option<usize>, Refusal>) -> String {
+    match answer {
+        Ok(Some(unit)) => format!("inspect unit {unit}"),
+        Ok(None) => String::from("inspect none"),
+        Err(refusal) => format!("inspect refused {}", refusal as u8),
+    }
 }
 
 /// Up to `times` steps, ending early at a refusal: the answer of the last one.
@@ -609,17 +756,208 @@ fn steps(device: &mut Device, image: &mut [u8], times: u16) -> Answer {
     Ok(())
 }
 
-fn bench() -> io::Result<()> {
+fn play_input(mode: Mode) -> io::Result<()> {
     // One byte more than a script may have is enough to see it is too long.
     let mut script = Vec::with_capacity(MAX_SCRIPT + 1);
     io::stdin().lock().take(MAX_SCRIPT as u64 + 1).read_to_end(&mut script)?;
     let mut printer = Printer::new(io::stdout().lock());
-    play(&script, &mut printer)?;
+    play(&script, mode, &mut printer)?;
     printer.hand_on()
 }
 
+// --------------------------------------------------------------- self-test
+// Every answer expected here was worked out by hand from the document.
+
+/// Level, rate and the line printed.
+const DRIVE_CASES: [(u16, u16, &str); 20] = [
+    (20, 255, "drive 0 3930"), // C8: 100 + 3200 + 20 × 63 / 2
+    (1, 0, "drive 0 260"),     // C9: 100 + 160 + 0
+    (1, 8, "drive 0 261"),     // C10: bin 2, 100 + 160 + 1
+    (21, 256, "drive 9 0"),    // C11: 9 is lower than 10
+    (1, 3, "drive 0 260"),     // still bin 0
+    (1, 4, "drive 0 260"),     // bin 1, floor(1 / 2) = 0
+    (3, 3, "drive 0 580"),     // 100 + 480 + 0
+    (3, 4, "drive 0 581"),     // bin 1, floor(3 / 2) = 1
+    (3, 12, "drive 0 584"),    // bin 3, floor(9 / 2) = 4
+    (5, 13, "drive 0 907"),    // bin 3, 100 + 800 + floor(15 / 2) = 7
+    (7, 23, "drive 0 1237"),   // bin 5, 100 + 1120 + floor(35 / 2) = 17
+    (19, 255, "drive 0 3738"), // 100 + 3040 + floor(1197 / 2) = 598
+    (20, 3, "drive 0 3300"),   // 100 + 3200 + 0
+    (0, 0, "drive 9 0"),
+    (0, 256, "drive 9 0"),
+    (21, 0, "drive 9 0"),
+    (257, 0, "drive 9 0"),
+    (1, 256, "drive 10 0"),
+    (20, 65535, "drive 10 0"),
+    (65535, 65535, "drive 9 0"),
+];
+
+/// Widths, image length, phase, and the lines of inspect and of read of unit
+/// 0. Every image byte is 1. Most of these no script can reach.
+const DEVICE_CASES: [(&[u16], usize, Phase, &str, &str); 15] = [
+    (&[], 99, Phase::Ready, "inspect refused 1", "read 1"),
+    (&[1; 9], 99, Phase::Ready, "inspect refused 1", "read 1"),
+    (&[0; 9], 0, Phase::Cold, "inspect refused 1", "read 1"),
+    (&[2, 0], 99, Phase::Ready, "inspect refused 2", "read 2"),
+    (&[2, 257], 0, Phase::Cold, "inspect refused 2", "read 2"),
+    // Units of 5 and 3 bytes, so the image has 8.
+    (&[2, 1], 7, Phase::Ready, "inspect refused 3", "read 3"),
+    (&[2, 1], 7, Phase::Writing { unit: 2, made: 0 }, "inspect refused 3", "read 3"),
+    (&[2, 1], 8, Phase::Ready, "inspect none", "read 0 (01 01)"),
+    (&[2, 1], 8, Phase::Cold, "inspect none", "read 5"),
+    (&[2, 1], 8, Phase::Writing { unit: 2, made: 0 }, "inspect refused 4", "read 4"),
+    // 2 × 2 + 3 = 7 stores, 2 + 1 = 3 stores.
+    (&[2, 1], 8, Phase::Writing { unit: 0, made: 6 }, "inspect none", "read 5"),
+    (&[2, 1], 8, Phase::Writing { unit: 0, made: 7 }, "inspect refused 4", "read 4"),
+    (&[2, 1], 8, recovering(2, 0), "inspect refused 4", "read 4"),
+    (&[2, 1], 8, recovering(0, 2), "inspect none", "read 5"),
+    (&[2, 1], 8, recovering(0, 3), "inspect refused 4", "read 4"),
+];
+
+const fn recovering(unit: usize, made: usize) -> Phase {
+    Phase::Recovering { unit, made, direction: Direction::AToB }
+}
+
+/// Lines after `(plan (2 1))` and what they print after `plan 0`. Unit 0 has
+/// its marker at byte 0, A at 1 and 2, B at 3 and 4; unit 1 has them at 5, 6
+/// and 7.
+const LOOK_CASES: [(&str, &str); 12] = [
+    // A whole write, looked at in Ready.
+    ("(write 0 (0a 0b))\n(step 7)\n(inspect)\n(read 0)\n(read 1)\n(read 2)\n",
+     "write 0\nstep 0\ninspect none\nread 0 (0a 0b)\nread 0 (00)\nread 6\n"),
+    // C1: the write did not pass.
+    ("(write 0 (0a 0b))\n(inspect)\n(step 3)\n(inspect)\n(cut 00)\n(inspect)\n(read 0)\n\
+      (wake)\n(inspect)\n(read 0)\n(step 2)\n(inspect)\n(step 1)\n(inspect)\n(read 0)\n",
+     "write 0\ninspect none\nstep 0\ninspect unit 0\ncut 0\ninspect unit 0\nread 5\n\
+      wake 0\ninspect unit 0\nread 5\nstep 0\ninspect unit 0\nstep 0\ninspect none\n\
+      read 0 (00 00)\n"),
+    // C2: it passed, by a torn marker.
+    ("(write 0 (0a 0b))\n(step 3)\n(cut 02)\n(inspect)\n(wake)\n(step 3)\n(read 0)\n",
+     "write 0\nstep 0\ncut 0\ninspect unit 0\nwake 0\nstep 0\nread 0 (0a 0b)\n"),
+    // C3: it passed, by the marker's store.
+    ("(write 0 (0a 0b))\n(step 4)\n(cut 00)\n(inspect)\n(wake)\n(step 3)\n(read 0)\n",
+     "write 0\nstep 0\ncut 0\ninspect unit 0\nwake 0\nstep 0\nread 0 (0a 0b)\n"),
+    // C4, and the same cut with 00, which leaves the marker 1.
+    ("(write 0 (0a 0b))\n(cut ff)\n(inspect)\n(wake)\n(step 3)\n(read 0)\n\
+      (write 0 (0a 0b))\n(cut 00)\n(inspect)\n(read 0)\n(wake)\n(read 0)\n",
+     "write 0\ncut 0\ninspect unit 0\nwake 0\nstep 0\nread 0 (00 00)\n\
+      write 0\ncut 0\ninspect none\nread 5\nwake 0\nread 0 (00 00)\n"),
+    // Copy A, where every byte around it is another.
+    ("(set 1 a1)\n(set 2 a2)\n(set 3 b3)\n(set 4 b4)\n(set 6 a6)\n(set 7 b7)\n(read 0)\n(read 1)\n",
+     "read 0 (a1 a2)\nread 0 (a6)\n"),
+    // The lowest bad unit; a read is refused by its own marker only.
+    ("(set 5 02)\n(inspect)\n(read 0)\n(read 1)\n(read 2)\n(set 0 00)\n(inspect)\n(read 0)\n\
+      (set 5 01)\n(inspect)\n(read 1)\n(set 0 01)\n(inspect)\n",
+     "inspect unit 1\nread 0 (00 00)\nread 8\nread 6\ninspect unit 0\nread 8\n\
+      inspect unit 0\nread 0 (00)\ninspect none\n"),
+    // 5 before 6 and before 8, in Cold and in Writing; while unit 1 is written,
+    // inspect names it, or a lower one that is bad too.
+    ("(cut 00)\n(set 0 02)\n(read 0)\n(read 2)\n(set 0 01)\n(wake)\n(write 1 (07))\n(step 1)\n\
+      (read 1)\n(read 2)\n(inspect)\n(set 0 00)\n(inspect)\n",
+     "cut 0\nread 5\nread 5\nwake 0\nwrite 0\nstep 0\nread 5\nread 5\ninspect unit 1\n\
+      inspect unit 0\n"),
+    // Foreign: 8 for begin and read, 5 before 14, and wake stays Cold.
+    ("(set 5 08)\n(inspect)\n(read 1)\n(write 1 (07))\n(wake)\n(cut 00)\n(wake)\n(step 1)\n\
+      (set 0 02)\n(wake)\n(inspect)\n(set 5 ff)\n(wake)\n(set 5 07)\n(wake)\n",
+     "inspect unit 1\nread 8\nwrite 8\nwake 5\ncut 0\nwake 14\nstep 5\n\
+      wake 14\ninspect unit 0\nwake 14\nwake 0\n"),
+    // A cleanup goes on to a foreign marker as to any X: A to B.
+    ("(cut 00)\n(set 0 02)\n(wake)\n(set 5 08)\n(set 6 a6)\n(set 7 b7)\n(step 3)\n(inspect)\n\
+      (step 2)\n(inspect)\n(read 1)\n(show)\n",
+     "cut 0\nwake 0\nstep 0\ninspect unit 1\nstep 0\ninspect none\nread 0 (a6)\n\
+      (unit 0 (log 01) (a 00 00) (b 00 00))\n(unit 1 (log 01) (a a6) (b a6))\n"),
+    // A cleanup goes on upward only, so it can end in Ready over a bad unit.
+    ("(cut 00)\n(set 5 04)\n(wake)\n(inspect)\n(set 0 00)\n(inspect)\n(step 2)\n(step 1)\n\
+      (inspect)\n(read 0)\n(read 1)\n",
+     "cut 0\nwake 0\ninspect unit 1\ninspect unit 0\nstep 0\nstep 5\n\
+      inspect unit 0\nread 8\nread 0 (00)\n"),
+    // The last image byte, and the one after it.
+    ("(set 7 b7)\n(show)\n(set 8 00)\n(show)\n",
+     "(unit 0 (log 01) (a 00 00) (b 00 00))\n(unit 1 (log 01) (a 00) (b b7))\nbad 4\n"),
+];
+
+/// Lines that are bad in both modes.
+const BAD_LINES: [&str; 18] = [
+    "(drive 65536 0)", "(drive 1 65536)", "(read 65536)", "(set 8 00)", "(set 0 0)", "(set 0 AB)",
+    "(drive 01 0)", "(drive 1)", "(drive 1 2 3)", "(drive  1 2)", "(drives )", "(drives 1)",
+    "(read)", "(read 0) ", "(inspect 0)", "(inspect", "(set -1 00)", "(set 0 000)",
+];
+
+/// Lines that are good in the mode `looks` and bad in the bench program.
+const LOOK_LINES: [&str; 5] =
+    ["(drive 65535 65535)", "(drives)", "(read 65535)", "(inspect)", "(set 7 ff)"];
+
+/// What a script prints.
+fn played(script: &str, mode: Mode) -> io::Result<String> {
+    let mut printer = Printer::new(Vec::new());
+    play(script.as_bytes(), mode, &mut printer)?;
+    printer.hand_on()?;
+    Ok(String::from_utf8_lossy(&printer.to).into_owned())
+}
+
+/// A device case's lines of inspect and of read of unit 0.
+fn looked(widths: &[u16], image_length: usize, phase: Phase) -> String {
+    let device = Device { plan: Plan::from_script(widths), payload: [0; MAX_WIDTH], phase };
+    let image = vec![1; image_length];
+    inspect_line(inspect(&device, &image)) + "\n" + &read_line(read(&device, &image, 0))
+}
+
+/// Every case: its name, what came out and what should have.
+fn cases() -> io::Result<Vec<(String, String, String)>> {
+    let mut cases = Vec::new();
+    for (level, rate, line) in DRIVE_CASES {
+        cases.push((format!("drive {level} {rate}"), drive_line(drive(level, rate)), line.into()));
+    }
+    for (i, (widths, length, phase, inspected, read)) in DEVICE_CASES.into_iter().enumerate() {
+        let expected = format!("{inspected}\n{read}");
+        cases.push((format!("device case {i}"), looked(widths, length, phase), expected));
+    }
+    for (lines, printed) in LOOK_CASES {
+        let script = format!("(plan (2 1))\n{lines}");
+        let got = played(&script, Mode::Looks)?;
+        cases.push((script, got, format!("plan 0\n{printed}")));
+    }
+    for line in BAD_LINES.into_iter().chain(LOOK_LINES) {
+        let got = played(&format!("(plan (2 1))\n{line}\n"), Mode::Bench)?;
+        cases.push((format!("{line} on the bench"), got, "plan 0\nbad 2\n".into()));
+    }
+    for line in BAD_LINES {
+        let got = played(&format!("(plan (2 1))\n{line}\n"), Mode::Looks)?;
+        cases.push((format!("{line} in looks"), got, "plan 0\nbad 2\n".into()));
+    }
+    for line in LOOK_LINES {
+        let got = played(&format!("(plan (2 1))\n{line}\n(wake)\n"), Mode::Looks)?;
+        let end = got.lines().last().unwrap_or("").into();
+        cases.push((format!("{line} in looks"), end, "wake 5".into()));
+    }
+    Ok(cases)
+}
+
+fn selftest() -> io::Result<()> {
+    let cases = cases()?;
+    let mut wrong = 0;
+    for (name, got, expected) in &cases {
+        if got != expected {
+            eprintln!("{name}\nexpected:\n{expected}\ngot:\n{got}");
+            wrong += 1;
+        }
+    }
+    if wrong > 0 {
+        return Err(io::Error::other(format!("{wrong} of {} cases are wrong", cases.len())));
+    }
+    println!("{} cases, all as worked out by hand", cases.len());
+    Ok(())
+}
+
 fn main() -> ExitCode {
-    match bench() {
+    let arguments: Vec<String> = std::env::args().skip(1).collect();
+    let done = match arguments.iter().map(String::as_str).collect::<Vec<_>>()[..] {
+        [] => play_input(Mode::Bench),
+        ["looks"] => play_input(Mode::Looks),
+        ["--selftest"] => selftest(),
+        _ => Err(io::Error::other("usage: simulator [looks | --selftest]")),
+    };
+    match done {
         Ok(()) => ExitCode::SUCCESS,
         Err(error) => {
             eprintln!("simulator: {error}");
