@@ -2,3 +2,4 @@ pub mod Accepted
 pub mod Table
 pub mod Drives
 pub mod Over
+pub mod Promises

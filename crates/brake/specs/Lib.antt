@@ -1,1 +1,3 @@
 pub mod Over
+pub mod Table
+pub mod Promises

@@ -1,9 +1,10 @@
 // The brake's drive, by one look-up. Document 01, 'Brake drive': "Drive = 100 + 160 × l + floor(l × c / 2), in steps of a
 // 12-bit converter." The rule itself stands in the model's specs/Drive.antt.
 ghost use mathlib.Core.Path.{_≡_};
-ghost use Prim.Native.Nat.{_+_, _*_, _-_, _/_, _≤_, _<_};
+ghost use Prim.Native.Nat.{_+_, _*_, _-_, _/_};
 ghost use Rattle.model.specs.Drive.{driveNumber, drive};
-ghost use Rattle.brake.specs.Over.{driveOverNumber, driveOver};
+ghost use Rattle.brake.specs.Over.{driveOverNumber, driveOver, Answers};
+ghost use Rattle.brake.specs.Promises.{InRange};
 use model::refusals::BAD_LEVEL;
 use model::refusals::BAD_RATE;
 use model::refusals::NO_ROOM;
@@ -1300,7 +1301,7 @@ pub struct Driven {
 
 // Where the table has a level and a rate. "Bin c = floor(r / 4)."
 fn place(level: u16, rate: u16) -> usize
-    requires { ⌜ (0 < level) × (level ≤ 20) × (rate ≤ 255) ⌝ }
+    requires { ⌜ InRange level rate ⌝ }
     ensures { λ r. ⌜ r ≡ 64 * (level - 1) + rate / 4 ⌝ }
 {
     64 * ((level - 1) as usize) + ((rate >> 2) as usize)
@@ -1321,7 +1322,7 @@ fn refusal(level: u16, rate: u16) -> u16
 
 // The drive over the constant table.
 pub fn drive(level: u16, rate: u16) -> Driven
-    ensures { λ r. ⌜ (r .number ≡ driveNumber level rate) × (r .drive ≡ drive level rate) ⌝ }
+    ensures { λ r. ⌜ Answers r (driveNumber level rate) (drive level rate) ⌝ }
 {
     let number = refusal(level, rate);
     if number != 0 {
@@ -1340,8 +1341,7 @@ pub fn drive(level: u16, rate: u16) -> Driven
 
 // The drive over a lent table of 1,280 entries, such as a bike maker's curve. Refused: 11, 9, 10, in this order.
 pub fn drive_over(table: &[u16], level: u16, rate: u16) -> Driven
-    ensures { λ r. ⌜ (r .number ≡ driveOverNumber (now (table .entry)) level rate)
-        × (r .drive ≡ driveOver (now (table .entry)) level rate) ⌝ }
+    ensures { λ r. ⌜ Answers r (driveOverNumber (now (table .entry)) level rate) (driveOver (now (table .entry)) level rate) ⌝ }
 {
     if table.len() != 1280 {
         return Driven {

@@ -14,6 +14,7 @@ use Rattle.token.specs.Token.{lost}
 use Rattle.token.proofs.Values.{values-length}
 use Rattle.token.specs.Lines.{lineEnd, lineAt}
 use Rattle.curve.specs.Curve.{rowAt, rowOf, inRule, lowerOf, lineNumber, curve, linesFrom, curveOf, levelsGood, passes, badRoom, loadNumber, loaded}
+use Rattle.curve.specs.Promises.{LoadPasses}
 
 -- what is read of the n lines that are left, after the entries done
 record Left (n : ℕ) (done entries : List ℕ) : Type 0 where
@@ -72,8 +73,7 @@ accepted-passes text e =
     let all = all-good 20 text 0 [] e in
     rw (all .is, eq-eqb (length (all .rest)) 1280 (all .size)) (all .good)
 
--- so does the table after every load that was accepted
-pub load-passes : (text table : List ℕ) (scratch : ℕ) → loadNumber text (length table) scratch ≡ 0 → passes (loaded text table scratch) ≡ true
+pub load-passes : LoadPasses
 unfolding loadNumber loaded
 load-passes text table scratch e =
     let good = room (badRoom (length table) scratch) (curveOf text .number) e in

@@ -1,6 +1,7 @@
 pub mod Row
 pub mod Turn
 pub mod Lines
+pub mod Room
 pub mod Copied
 pub mod Loaded
 pub mod Promise

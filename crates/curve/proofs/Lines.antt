@@ -4,6 +4,7 @@ use mathlib.Core.Path.{_≡_, ap, sym, _∙_}
 use mathlib.Core.Bool.{Bool, true, false, cond}
 use mathlib.Core.List.{List, [], _++_}
 use native.Mathlib.Omega.{arith}
+use lib.Dec.{eqb, ltb}
 use lib.ListN.{length, take, drop}
 use borrow.Author.Tests.{eq-eqb, ne-eqb, lt-ltb, le-ltb}
 use Rattle.token.specs.declared.Kind.the-variants.{Entry}
@@ -16,6 +17,16 @@ module _ (i : ℕ) (text : List ℕ) (at : ℕ) (done : List ℕ) where
   pub line-missing : length text ≤ at → 12 ≡ lineNumber i text at done
   unfolding lineNumber
   line-missing h = rw (le-ltb at (length text) h)
+
+  pub line-never-11 : ¬ (lineNumber i text at done ≡ 11)
+  unfolding lineNumber
+  line-never-11 = go (ltb at (length text)) (eqb (rowAt (i + 1) (lineAt text at)) lost) (inRule 0 (lowerOf done) (rowOf (i + 1) (lineAt text at)))
+    where
+      go : (inside formless good : Bool) → ¬ (_≡_ {A = ℕ} (cond inside (cond formless 12 (cond good 0 13)) 12) 11)
+      go false formless good e = omega arith
+      go true true good e = omega arith
+      go true false true e = omega arith
+      go true false false e = omega arith
 
   -- the line as the code cut it out, and where it found the entries
   module _ (inside : at < length text) (end : ℕ) (ee : end ≡ lineEnd text at) (line : List ℕ)

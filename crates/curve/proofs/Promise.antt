@@ -1,4 +1,4 @@
--- What a table that passes the check promises a rider, and that every accepted text gives such a table.
+-- What the check says of the entries of a table that passes it.
 use Prim.Native.Nat.{ℕ, zero, suc, _+_, _*_, _-_, _≤_, _<_}
 use mathlib.Core.Path.{_≡_, refl, ap, _∙_}
 use mathlib.Core.Bool.{Bool, true, false, _&&_, false≢true}

@@ -18,8 +18,7 @@ returns-2 : tie.Need-returns-2
 returns-2 c = over-refused _ _ _ (omega (arith, c .before .before .if1 .left)) _ (c .before .refusal .ensures) (c .if2 .taken)
 
 place-requires : tie.Need-place-requires
-place-requires c κs = let range = in-range _ _ (sym (c .before .refusal .ensures) ∙ c .if2 .left) in
-    (omega (arith, range), omega (arith, range), omega (arith, range))
+place-requires c κs = in-range _ _ (sym (c .before .refusal .ensures) ∙ c .if2 .left)
 
 mul-entry : tie.Need-mul-entry
 mul-entry c = search needs
@@ -31,7 +30,8 @@ returns-3 : tie.Need-returns-3
 returns-3 c = let a = c .before .before .before .before .before .before .args in
     let accepted = sym (c .before .before .before .refusal .ensures) ∙ c .before .before .if2 .left in
     let fits = c .before .before .before .before .if1 .left in
-    (sym (over-number (now (a .table)) (a .level) (a .rate) fits ∙ accepted), rw (c .before .place .ensures) (sym (over-entry (now (a .table)) (a .level) (a .rate) fits accepted)))
+    let at = over-entry (now (a .table)) (a .level) (a .rate) fits accepted in
+    record { number = sym (over-number (now (a .table)) (a .level) (a .rate) fits ∙ accepted); drive = rw (c .before .place .ensures) (sym at) }
 
 pub drive-over-spec : {M : Type 1} → statement M
 drive-over-spec =

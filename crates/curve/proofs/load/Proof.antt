@@ -4,7 +4,7 @@ use native.Mathlib.Omega.{arith}
 use denote.Ref.{now}
 use mathlib.Core.Path.{_≡_, refl, sym, _∙_}
 use lib.ListN.{length}
-use Rattle.curve.proofs.Loaded.{wrong-table, short-scratch, bad-text, good-text}
+use Rattle.curve.proofs.Loaded.{wrong-table, too-short, bad-text, good-text}
 use Rattle.curve.proofs.load.Statement.{statement}
 use Rattle.curve.proofs.load.Tie as tie
 
@@ -15,7 +15,7 @@ returns c = let a = c .before .before .before .before .args in
 
 returns-2 : tie.Need-returns-2
 returns-2 c = let a = c .before .before .before .before .before .args in
-    let w = short-scratch (now (a .text)) (now (a .table)) (length (now (a .scratch))) (omega (arith, c .before .if1 .left)) (omega (arith, c .if2 .taken)) in
+    let w = too-short (now (a .text)) (now (a .table)) (length (now (a .scratch))) (omega (arith, c .if2 .taken)) in
     (w .0, w .1, refl, refl)
 
 read-lines-requires : tie.Need-read-lines-requires
