@@ -1,3 +1,4 @@
 pub mod Over
 pub mod Table
 pub mod Promises
+pub mod Cases

@@ -1,4 +1,5 @@
--- Lines and their numbers, one for each way to be refused, computed from the definitions. The texts of `crates/curves` are whole.
+-- Lines and rooms and their numbers, one for each way to be refused, computed from the definitions. The texts of `crates/curves`
+-- are whole.
 use Prim.Native.Nat.{ℕ, zero, suc}
 use Prim.Native.String.{String}
 use mathlib.Core.Path.{_≡_, refl}
@@ -9,7 +10,7 @@ use Rattle.token.specs.Ascii.{ascii}
 use Rattle.token.specs.Token.{eatAt, wordAt, digitOf, digitAt, extendAt, moreAt, entryAt, itemAt, itemsAt}
 use Rattle.token.specs.Items.{valuesAt}
 use Rattle.token.specs.Lines.{lineEnd, lineAt}
-use Rattle.curve.specs.Curve.{rowAt, inRule, lineNumber}
+use Rattle.curve.specs.Curve.{rowAt, inRule, lineNumber, linesFrom, loadNumber}
 
 -- a text that begins with `before`, has n entries `0`, each with a space after it, and ends with `after`
 zeros : ℕ → List ℕ
@@ -48,3 +49,29 @@ numbers : map {A = Row} {B = ℕ × ℕ} (λ row. (lineNumber 0 (row .0) 0 [], l
     ≡ map {A = Row} {B = ℕ × ℕ} (λ row. (row .1, row .2)) rows
 unfolding rows zeros lineNumber rowAt inRule lineAt lineEnd indexOf indexAfter slice valuesAt itemsAt itemAt entryAt moreAt extendAt digitAt digitOf wordAt eatAt
 numbers = refl
+
+-- a text, the lengths of table and scratch, and the load's number: a table of 1,280 exactly, a scratch of 1,280 or more
+abbrev Load : Type 0
+Load = List ℕ × ℕ × ℕ × ℕ
+
+unfoldable loads : List Load
+loads =
+    ([], 0, 0, 11)
+    ∷ ([], 1279, 1280, 11)
+    ∷ ([], 1281, 1280, 11)
+    ∷ ([], 1281, 1281, 11)
+    ∷ ([], 1280, 1279, 11)
+    ∷ ([], 1280, 64, 11)
+    ∷ ([], 1280, 1280, 12)
+    ∷ ([], 1280, 1281, 12)
+    ∷ ([], 1280, 65535, 12)
+    ∷ (line "(level 1 (" 63 "4096))", 1281, 1280, 11)
+    ∷ (line "(level 1 (" 63 "4096))", 1280, 1279, 11)
+    ∷ (line "(level 1 (" 63 "4096))", 1280, 1280, 13)
+    ∷ (line "(level 1 (" 63 "4096))", 1280, 2560, 13)
+    ∷ (line "(level 1 (" 63 "0))\n", 1280, 1280, 12)
+    ∷ []
+
+rooms : map {A = Load} {B = ℕ} (λ load. loadNumber (load .0) (load .1) (load .2)) loads ≡ map {A = Load} {B = ℕ} (λ load. load .3) loads
+unfolding loads zeros loadNumber linesFrom lineNumber rowAt inRule lineAt lineEnd indexOf indexAfter slice valuesAt itemsAt itemAt entryAt moreAt extendAt digitAt digitOf wordAt eatAt
+rooms = refl
