@@ -6,6 +6,7 @@ use mathlib.Core.Bool.{Bool, true, cond, not, _&&_, _||_}
 use mathlib.Core.List.{List, [], _∷_, _++_}
 use lib.Dec.{eqb, ltb, leb}
 use lib.ListN.{length, take, drop}
+use Rattle.model.specs.Numbers.{NO-ROOM, BAD-LINE, BAD-ENTRY}
 use Rattle.token.specs.Ascii.{ascii}
 use Rattle.token.specs.declared.Kind.the-variants.{Entry}
 use Rattle.token.specs.declared.Item.{Item}
@@ -48,8 +49,8 @@ unfoldable pub lineNumber : ℕ → List ℕ → ℕ → List ℕ → ℕ
 lineNumber i text at done =
     let line : List ℕ = lineAt text at in
     cond (ltb at (length text))
-    (cond (eqb (rowAt (i + 1) line) lost) 12 (cond (inRule 0 (lowerOf done) (rowOf (i + 1) line)) 0 13))
-    12
+    (cond (eqb (rowAt (i + 1) line) lost) BAD-LINE (cond (inRule 0 (lowerOf done) (rowOf (i + 1) line)) 0 BAD-ENTRY))
+    BAD-LINE
 
 -- what a text comes to: its number, and its entries if that is 0
 pub record Curve : Type 0 where
@@ -62,7 +63,7 @@ curve number entries = record { number = number; entries = entries }
 -- "The file has 20 lines, levels 1 to 20 in order": the n lines that are left, after the entries done. ".. or a line 21";
 -- "of 12 and 13 the earlier line wins": the first line that has a number gives it.
 unfoldable pub linesFrom : ℕ → List ℕ → ℕ → List ℕ → Curve
-linesFrom zero text at done = cond (ltb at (length text)) (curve 12 []) (curve 0 done)
+linesFrom zero text at done = cond (ltb at (length text)) (curve BAD-LINE []) (curve 0 done)
 linesFrom (suc n) text at done =
     let number : ℕ = lineNumber (19 - n) text at done in
     cond (eqb number 0)
@@ -85,7 +86,7 @@ abbrev pub badRoom : ℕ → ℕ → Bool
 badRoom table scratch = not (eqb table 1280) || ltb scratch 1280
 
 unfoldable pub loadNumber : List ℕ → ℕ → ℕ → ℕ
-loadNumber text table scratch = cond (badRoom table scratch) 11 (curveOf text .number)
+loadNumber text table scratch = cond (badRoom table scratch) NO-ROOM (curveOf text .number)
 
 -- "It goes into the lent table .. only if all of it is good; a refusal leaves the table as it was"
 unfoldable pub loaded : List ℕ → List ℕ → ℕ → List ℕ

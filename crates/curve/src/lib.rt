@@ -1,5 +1,8 @@
 // Brake curves from the bike maker: a text of 20 levels by 64 entries is read into a lent scratch, and from there into the lent
 // table once all of it is known to be good. The contracts are equations with specs/Curve.antt.
+use model::refusals::BAD_ENTRY;
+use model::refusals::BAD_LINE;
+use model::refusals::NO_ROOM;
 use token::Kind;
 ghost use mathlib.Core.Path.{_≡_};
 ghost use mathlib.Core.Bool.{true, _||_, _&&_};
@@ -94,13 +97,16 @@ fn line_into(text: &[u8], at: usize, scratch: &mut [u16], i: usize) -> Past
         × (length (now (scratch .exit)) ≡ length (now (scratch .entry))) ⌝ }
 {
     if text.len() <= at {
-        return Past { number: 12, at: at };
+        return Past {
+            number: BAD_LINE,
+            at: at,
+        };
     }
     let end = bytes::scan::find(text, at, text.len(), b'\n');
     let from = row_at(&text[at..end], i + 1);
     if from == token::LOST {
         return Past {
-            number: 12,
+            number: BAD_LINE,
             at: end,
         };
     }
@@ -111,7 +117,10 @@ fn line_into(text: &[u8], at: usize, scratch: &mut [u16], i: usize) -> Past
             at: end + 1,
         };
     }
-    Past { number: 13, at: at }
+    Past {
+        number: BAD_ENTRY,
+        at: at,
+    }
 }
 
 // Reads all lines into the scratch: 0, or the first line's number that has one. A line 21 is 12.
@@ -132,7 +141,7 @@ fn read_lines(text: &[u8], scratch: &mut [u16]) -> u16
         at = past.at;
         i = i + 1;
     }
-    if at < text.len() { 12 } else { 0 }
+    if at < text.len() { BAD_LINE } else { 0 }
 }
 
 fn copy(scratch: &[u16], table: &mut [u16])
@@ -154,10 +163,10 @@ pub fn load(text: &[u8], table: &mut [u16], scratch: &mut [u16]) -> u16
         × (length (now (scratch .exit)) ≡ length (now (scratch .entry))) ⌝ }
 {
     if table.len() != 1280 {
-        return 11;
+        return NO_ROOM;
     }
     if scratch.len() < 1280 {
-        return 11;
+        return NO_ROOM;
     }
     let refusal = read_lines(text, &mut scratch[..]);
     if refusal != 0 {
