@@ -1,3 +1,4 @@
+pub mod Cases
 pub mod Accepted
 pub mod Table
 pub mod Drives

@@ -1,10 +1,9 @@
--- Numbers and drives over a lent table, computed from the definitions: whatever a later row mends is wrong in those before it.
+-- Numbers and drives over a lent table, computed from the definitions in proofs/Cases.antt:
+-- whatever a later row mends is wrong in those before it.
 use Prim.Native.Nat.{ℕ}
-use mathlib.Core.Path.{_≡_, refl}
+use mathlib.Core.Path.{_≡_}
 use mathlib.Core.List.{List, [], _∷_, map}
 use lib.ListN.{replicate}
-use Rattle.model.specs.Refusals.{first}
-use Rattle.model.specs.Drive.{driveNumber}
 use Rattle.brake.specs.Over.{driveOverNumber, driveOver}
 use Rattle.brake.specs.Table.{drives}
 
@@ -21,7 +20,7 @@ row table level rate number drive = record { table = table; level = level; rate 
 abbrev sevens : ℕ → List ℕ
 sevens n = replicate n 7
 
-unfoldable rows : List Row
+unfoldable pub rows : List Row
 rows =
     row [] 0 256 11 0
     ∷ row (sevens 1279) 0 256 11 0
@@ -45,7 +44,7 @@ rows =
     ∷ row drives 19 255 0 3738
     ∷ []
 
-every-row : map {A = Row} {B = ℕ × ℕ} (λ x. (driveOverNumber (x .table) (x .level) (x .rate), driveOver (x .table) (x .level) (x .rate))) rows
+abbrev pub EveryRow : Type 0
+EveryRow =
+    map {A = Row} {B = ℕ × ℕ} (λ x. (driveOverNumber (x .table) (x .level) (x .rate), driveOver (x .table) (x .level) (x .rate))) rows
     ≡ map {A = Row} {B = ℕ × ℕ} (λ x. (x .number, x .drive)) rows
-unfolding rows drives driveOverNumber driveOver driveNumber first
-every-row = refl

@@ -1,3 +1,4 @@
+pub mod Cases
 pub mod Row
 pub mod Turn
 pub mod Lines
@@ -5,5 +6,5 @@ pub mod Room
 pub mod Copied
 pub mod Loaded
 pub mod Promise
-pub mod Accepts
+pub mod Passes
 pub mod Rider

@@ -1,5 +1,5 @@
 -- What loading a curve promises, said of the number and the table that the contract of `load` cites; and what a rider is promised of
--- the drive over a table that passes the check. It is proved in proofs/Room.antt, Accepts.antt and Rider.antt.
+-- the drive over a table that passes the check. It is proved in proofs/Room.antt, Passes.antt and Rider.antt.
 use Prim.Native.Nat.{ℕ, _+_, _≤_, _<_}
 use mathlib.Core.Path.{_≡_}
 use mathlib.Core.Bool.{true}

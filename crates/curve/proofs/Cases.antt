@@ -1,0 +1,20 @@
+-- The rows of specs/Cases.antt, computed.
+use mathlib.Core.Path.{refl}
+use Rattle.bytes.specs.Bytes.{indexOf, indexAfter, slice}
+use Rattle.token.specs.Token.{eatAt, wordAt, digitOf, digitAt, extendAt, moreAt, entryAt, itemAt, itemsAt}
+use Rattle.token.specs.Items.{valuesAt}
+use Rattle.token.specs.Lines.{lineEnd, lineAt}
+use Rattle.curve.specs.Curve.{rowAt, inRule, lineNumber, linesFrom, loadNumber}
+use Rattle.curve.specs.Cases.{zeros, rows, EveryLine, loads, EveryRoom, endings, EveryEnding}
+
+pub every-line : EveryLine
+unfolding rows zeros lineNumber rowAt inRule lineAt lineEnd indexOf indexAfter slice valuesAt itemsAt itemAt entryAt moreAt extendAt digitAt digitOf wordAt eatAt
+every-line = refl
+
+pub every-room : EveryRoom
+unfolding loads zeros loadNumber linesFrom lineNumber rowAt inRule lineAt lineEnd indexOf indexAfter slice valuesAt itemsAt itemAt entryAt moreAt extendAt digitAt digitOf wordAt eatAt
+every-room = refl
+
+pub every-ending : EveryEnding
+unfolding endings zeros linesFrom lineNumber rowAt inRule lineAt lineEnd indexOf indexAfter slice valuesAt itemsAt itemAt entryAt moreAt extendAt digitAt digitOf wordAt eatAt
+every-ending = refl
