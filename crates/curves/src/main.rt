@@ -1,30 +1,18 @@
-// Loads each curve text that an argument names, and prints its number, a digest of the table after it, and drives over the table.
-// The table is full of sevens before each load. First come the tables and scratches that are refused whatever the text.
+// Loads each curve text that an argument names, and prints its path, its number, a digest of the table after it, and drives over the
+// table. The table is full of sevens before each load. First come the tables and scratches that are refused whatever the text.
 use brake::drive_over;
 use curve::load;
-ghost use mathlib.Core.Path.{_≡_};
-ghost use Prim.Native.Nat.{_+_, _<_, _≤_};
-ghost use lib.ListN.{length};
+use libc::STDOUT_FILENO;
 
-// Prints a word and a number, by way of a lent buffer.
-fn say_into(out: &mut [u8], word: &[u8], number: usize)
-    requires { ⌜ (12 ≤ length (now out)) × (length (now word) ≤ 5) × (number < 100000) ⌝ }
-{
-    let end = printing::put_answer(out, 0, word, number);
-    io::write_all(libc::STDOUT_FILENO, &out[..end]);
-}
-
-fn say(word: &[u8], number: usize)
-    requires { ⌜ (length (now word) ≤ 5) × (number < 100000) ⌝ }
-{
-    let mut out = [0u8; 12];
-    say_into(&mut out, word, number);
+fn say(word: &[u8], number: usize) {
+    io::write_all(STDOUT_FILENO, word);
+    io::write_all(STDOUT_FILENO, b" ");
+    io::print_decimal(STDOUT_FILENO, number as u64);
+    io::write_all(STDOUT_FILENO, b"\n");
 }
 
 // One number for a whole table, its order included.
-fn digest(table: &[u16]) -> usize
-    ensures { λ r. ⌜ r < 65521 ⌝ }
-{
+fn digest(table: &[u16]) -> usize {
     let mut sum: usize = 0;
     let mut i: usize = 0;
     while i < table.len() {
@@ -57,12 +45,20 @@ fn load_text(text: &[u8]) {
     say_drive(&table, 20, 255);
 }
 
-fn load_file(name: &[u8]) {
-    let file = os::open_read(name);
+fn say_path(path: &[u8]) {
+    io::write_all(STDOUT_FILENO, b"curve ");
+    io::write_all(STDOUT_FILENO, path);
+    io::write_all(STDOUT_FILENO, b"\n");
+}
+
+// A text that is longer than the room for it has a line 21, as every text has that is longer than a good one can be.
+fn load_file(path: &[u8]) {
+    let file = os::open_read(path);
     if file < 0 {
-        os::fail(name);
+        os::fail(path);
         return;
     }
+    say_path(path);
     let mut text = [0u8; 70000];
     let count = io::read_full(file, &mut text);
     libc::close(file);
@@ -96,16 +92,23 @@ fn say_refusals() {
     say_short();
 }
 
+// The argument is a path of at most 4,096 bytes; one that is longer isn't put into the buffer.
+fn load_argument(i: usize) {
+    let mut path = [0u8; 4096];
+    let length = os::arg(i, &mut path);
+    if os::errno() != 0 {
+        os::fail(b"curves: a path of more than 4096 bytes");
+        return;
+    }
+    load_file(&path[..length]);
+}
+
 fn main() {
     say_refusals();
     let count = os::arg_count();
     let mut i: usize = 1;
     while i < count {
-        let mut name = [0u8; 64];
-        let length = os::arg(i, &mut name);
-        if length <= 64 {
-            load_file(&name[..length]);
-        }
+        load_argument(i);
         i = i + 1;
     }
 }

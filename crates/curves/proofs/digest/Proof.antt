@@ -41,7 +41,7 @@ loop-again : tie.Need-loop-again Inv-loop μ-loop
 loop-again c = (omega arith, omega arith)
 
 returns : tie.Need-returns Inv-loop μ-loop
-returns c = c .before .loop .inv .1
+returns c = search needs
 
 pub digest-spec : {M : Type 1} → statement M
 digest-spec =

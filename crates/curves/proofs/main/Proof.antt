@@ -1,12 +1,11 @@
 -- `curves::main` is safe and ends.
-use Prim.Native.Nat.{_-_, _≤_}
 use borrow.Author.Needs.{needs}
+use Prim.Native.Nat.{_-_, _≤_}
 use Rattle.curves.proofs.main.Statement.{statement}
 use Rattle.curves.proofs.main.Tie as tie
 
 abbrev Inv-loop : tie.InvT-loop
-Inv-loop count i₀ i =
-    (1 ≤ i)
+Inv-loop count i₀ i = (1 ≤ i)
 
 abbrev μ-loop : tie.MeasureT-loop
 μ-loop count i₀ i = count - i
@@ -20,20 +19,8 @@ arg-count-requires c κs = search needs
 loop-holds : tie.Need-loop-holds Inv-loop μ-loop
 loop-holds c = search needs
 
-slice-aggregate-arg : tie.Need-slice-aggregate-arg Inv-loop μ-loop
-slice-aggregate-arg c = search needs
-
-arg-requires : tie.Need-arg-requires Inv-loop μ-loop
-arg-requires c κs = search needs
-
-array-share-prefix-name : tie.Need-array-share-prefix-name Inv-loop μ-loop
-array-share-prefix-name c = search needs
-
-slice-aggregate-load-file : tie.Need-slice-aggregate-load-file Inv-loop μ-loop
-slice-aggregate-load-file c = search needs
-
-load-file-requires : tie.Need-load-file-requires Inv-loop μ-loop
-load-file-requires c κs = search needs
+load-argument-requires : tie.Need-load-argument-requires Inv-loop μ-loop
+load-argument-requires c κs = search needs
 
 add-i : tie.Need-add-i Inv-loop μ-loop
 add-i c = search needs
@@ -56,11 +43,7 @@ main-spec =
     say-refusals-requires
     arg-count-requires
     loop-holds
-    slice-aggregate-arg
-    arg-requires
-    array-share-prefix-name
-    slice-aggregate-load-file
-    load-file-requires
+    load-argument-requires
     add-i
     loop-less
     loop-again
