@@ -11,7 +11,7 @@ use Rattle.token.specs.declared.Kind.the-variants.{Entry}
 use Rattle.token.specs.Token.{lost}
 use Rattle.token.specs.Items.{valuesAt}
 use Rattle.token.specs.Lines.{lineEnd, lineAt}
-use Rattle.curve.specs.Curve.{rowAt, rowOf, inRule, lowerOf, lineNumber, curve, linesFrom}
+use Rattle.curve.specs.Curve.{rowAt, rowOf, inRule, lowerOf, lineNumber, Curve, curve, linesFrom}
 
 module _ (i : ℕ) (text : List ℕ) (at : ℕ) (done : List ℕ) where
   pub line-missing : length text ≤ at → 12 ≡ lineNumber i text at done
@@ -58,28 +58,32 @@ module _ (i : ℕ) (text : List ℕ) (at : ℕ) (done : List ℕ) where
       pub line-bad : good ≡ false → 13 ≡ lineNumber i text at done
       line-bad g = sym (judged good e h ∙ rw g)
 
-  -- the lines that are left
-  module _ (more : i < 20) where
-    pub lines-go : lineNumber i text at done ≡ 0
-        → linesFrom (20 - i) text at done ≡ linesFrom (20 - (i + 1)) text (lineEnd text at + 1) (done ++ rowOf (i + 1) (lineAt text at))
-    unfolding linesFrom
-    lines-go e =
-        let n : 20 - i ≡ suc (20 - (i + 1)) = omega arith in
-        let l : 19 - (20 - (i + 1)) ≡ i = omega arith in
-        rw (n, l) (simp (eq-eqb (lineNumber i text at done) 0 e))
+  -- the lines that are left come to `whole`; k is what the code found of the next
+  module _ (whole : Curve) (is : linesFrom (20 - i) text at done ≡ whole) where
+    module _ (more : i < 20) (k : ℕ) (e : k ≡ lineNumber i text at done) where
+      pub lines-go : k ≡ 0 → (next : ℕ) (then : List ℕ) → next ≡ lineEnd text at + 1 → then ≡ done ++ rowOf (i + 1) (lineAt text at)
+          → linesFrom (20 - (i + 1)) text next then ≡ whole
+      unfolding linesFrom
+      lines-go z next then en et =
+          let n : 20 - i ≡ suc (20 - (i + 1)) = omega arith in
+          let l : 19 - (20 - (i + 1)) ≡ i = omega arith in
+          rw (en, et) (simp (eq-eqb (lineNumber i text at done) 0 (sym e ∙ z)) at (rw (n, l) at is))
 
-    pub lines-stop : ¬ (lineNumber i text at done ≡ 0) → linesFrom (20 - i) text at done ≡ curve (lineNumber i text at done) []
-    unfolding linesFrom
-    lines-stop h =
-        let n : 20 - i ≡ suc (20 - (i + 1)) = omega arith in
-        let l : 19 - (20 - (i + 1)) ≡ i = omega arith in
-        rw (n, l) (simp (ne-eqb (lineNumber i text at done) 0 h))
+      pub lines-stop : ¬ (k ≡ 0) → k ≡ whole .number
+      unfolding linesFrom
+      lines-stop h =
+          let n : 20 - i ≡ suc (20 - (i + 1)) = omega arith in
+          let l : 19 - (20 - (i + 1)) ≡ i = omega arith in
+          let stops = simp (ne-eqb (lineNumber i text at done) 0 (λ z. h (e ∙ z))) at (rw (n, l) at is) in
+          e ∙ ap (λ (x : Curve). x .number) stops
 
-  module _ (none : 20 ≤ i) where
-    pub line-over : at < length text → linesFrom (20 - i) text at done ≡ curve 12 []
-    unfolding linesFrom
-    line-over h = let n : 20 - i ≡ 0 = omega arith in rw (n, lt-ltb at (length text) h)
+    module _ (none : 20 ≤ i) where
+      pub line-over : at < length text → 12 ≡ whole .number
+      unfolding linesFrom
+      line-over h =
+          let n : 20 - i ≡ 0 = omega arith in
+          ap (λ (x : Curve). x .number) (rw (n, lt-ltb at (length text) h) at is)
 
-    pub lines-end : length text ≤ at → linesFrom (20 - i) text at done ≡ curve 0 done
-    unfolding linesFrom
-    lines-end h = let n : 20 - i ≡ 0 = omega arith in rw (n, le-ltb at (length text) h)
+      pub lines-end : length text ≤ at → curve 0 done ≡ whole
+      unfolding linesFrom
+      lines-end h = let n : 20 - i ≡ 0 = omega arith in rw (n, le-ltb at (length text) h) at is

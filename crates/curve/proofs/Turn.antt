@@ -43,19 +43,20 @@ module _ (i : ℕ) (scratch done : List ℕ) (is : take (64 * i) scratch ≡ don
             rw (none, drop-nil (length {A = ℕ} [] - 64), drop-nil (at - 64 * i), lt-ltb at 64 (omega arith))
       ]
 
-  module _ (before : ℕ) (row : List ℕ) where
+  -- what the code found: `good`
+  module _ (before : ℕ) (row : List ℕ) (good : Bool) (e : good ≡ tested scratch at before x) where
     abbrev left : List ℕ
     left = drop (at - 64 * i) (lowerOf done)
 
-    pub rule-goes-on : tested scratch at before x ≡ true → inRule before left (x ∷ row) ≡ inRule x (drop (at + 1 - 64 * i) (lowerOf done)) row
+    pub rule-goes-on : good ≡ true → inRule before left (x ∷ row) ≡ inRule x (drop (at + 1 - 64 * i) (lowerOf done)) row
     unfolding inRule
-    rule-goes-on e =
+    rule-goes-on f =
         let n : at + 1 - 64 * i ≡ at - 64 * i + 1 = omega arith in
-        rw (above-at, e, n, drop-drop 1 (at - 64 * i) (lowerOf done))
+        rw (above-at, sym e ∙ f, n, drop-drop 1 (at - 64 * i) (lowerOf done))
 
-    pub rule-ends : tested scratch at before x ≡ false → inRule before left (x ∷ row) ≡ false
+    pub rule-ends : good ≡ false → inRule before left (x ∷ row) ≡ false
     unfolding inRule
-    rule-ends e = rw (above-at, e)
+    rule-ends f = rw (above-at, sym e ∙ f)
 
 -- ---- the entries that are left, and the scratch
 pub values-on : (line : List ℕ) (p end at : ℕ) (item : Item) (q : ℕ) → at < end → item ≡ entryAt line p → q ≡ eatAt line (item .next) 32
@@ -77,5 +78,6 @@ both : (x y : Bool) → x && y ≡ true → x ≡ true
 both true y e = refl
 both false y e = e
 
-pub tested-small : (scratch : List ℕ) (at before x : ℕ) → tested scratch at before x ≡ true → x ≤ 4095
-tested-small scratch at before x e = leb-true x 4095 (both (leb x 4095) (leb before x) (both (leb x 4095 && leb before x) (ltb at 64 || ltb (getD scratch (at - 64) 0) x) e))
+pub tested-small : (scratch : List ℕ) (at before x : ℕ) (good : Bool) → good ≡ tested scratch at before x → good ≡ true → x ≤ 4095
+tested-small scratch at before x good e f =
+    leb-true x 4095 (both (leb x 4095) (leb before x) (both (leb x 4095 && leb before x) (ltb at 64 || ltb (getD scratch (at - 64) 0) x) (sym e ∙ f)))

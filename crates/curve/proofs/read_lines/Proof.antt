@@ -30,9 +30,8 @@ returns : tie.Need-returns Inv-loop μ-loop
 returns c = let a = c .before .before .before .before .before .before .before .before .before .args in
     let l = c .before .before .before .before .before .before .loop in
     let r = c .before .before .before .line-into .ensures in
-    let text = now (a .text) in
-    let stops = lines-stop (l .i) text (l .at) (take (64 * l .i) (l .scratch)) (omega (arith, c .before .before .before .before .before .loop-test .taken)) (λ z. c .if1 .taken (r .0 ∙ z)) in
-    (r .0 ∙ ap (λ (x : Curve). x .number) (sym stops ∙ l .inv .1), λ z. absurd (c .if1 .taken z), r .2 ∙ l .inv .2)
+    let stops = lines-stop (l .i) (now (a .text)) (l .at) (take (64 * l .i) (l .scratch)) _ (l .inv .1) (omega (arith, c .before .before .before .before .before .loop-test .taken)) _ (r .0) (c .if1 .taken) in
+    (stops, λ z. absurd (c .if1 .taken z), r .2 ∙ l .inv .2)
 
 add-i : tie.Need-add-i Inv-loop μ-loop
 add-i c = search needs
@@ -44,11 +43,10 @@ loop-again : tie.Need-loop-again Inv-loop μ-loop
 loop-again c = let a = c .before .before .before .before .before .before .before .before .before .args in
     let l = c .before .before .before .before .before .before .loop in
     let r = c .before .before .before .line-into .ensures in
-    let text = now (a .text) in
-    let goes = lines-go (l .i) text (l .at) (take (64 * l .i) (l .scratch)) (omega (arith, c .before .before .before .before .before .loop-test .taken)) (sym (r .0) ∙ c .if1 .left) in
     let past = r .1 (c .if1 .left) in
     let all : 64 * (l .i + 1) ≡ 64 * l .i + 64 = omega arith in
-    (omega arith, rw (all, past .0, past .1) (sym goes ∙ l .inv .1), r .2 ∙ l .inv .2)
+    let goes = lines-go (l .i) (now (a .text)) (l .at) (take (64 * l .i) (l .scratch)) _ (l .inv .1) (omega (arith, c .before .before .before .before .before .loop-test .taken)) _ (r .0) (c .if1 .left) _ _ (past .0) (past .1) in
+    (omega arith, rw all goes, r .2 ∙ l .inv .2)
 
 same-length-2 : tie.Need-same-length-2 Inv-loop μ-loop
 same-length-2 c = search needs
@@ -56,8 +54,8 @@ same-length-2 c = search needs
 returns-2 : tie.Need-returns-2 Inv-loop μ-loop
 returns-2 c = let a = c .before .before .before .before .before .args in
     let l = c .before .before .loop in
-    let over = line-over (l .i) (now (a .text)) (l .at) (take (64 * l .i) (l .scratch)) (omega (arith, c .before .loop-test .left)) (c .if2 .taken) in
-    (ap (λ (x : Curve). x .number) (sym over ∙ l .inv .1), λ z. absurd (omega arith), l .inv .2)
+    let over = line-over (l .i) (now (a .text)) (l .at) (take (64 * l .i) (l .scratch)) _ (l .inv .1) (omega (arith, c .before .loop-test .left)) (c .if2 .taken) in
+    (over, λ z. absurd (omega arith), l .inv .2)
 
 same-length-3 : tie.Need-same-length-3 Inv-loop μ-loop
 same-length-3 c = search needs
@@ -65,9 +63,9 @@ same-length-3 c = search needs
 returns-3 : tie.Need-returns-3 Inv-loop μ-loop
 returns-3 c = let a = c .before .before .before .before .before .args in
     let l = c .before .before .loop in
-    let ends = lines-end (l .i) (now (a .text)) (l .at) (take (64 * l .i) (l .scratch)) (omega (arith, c .before .loop-test .left)) (c .if2 .left) in
+    let ends = lines-end (l .i) (now (a .text)) (l .at) (take (64 * l .i) (l .scratch)) _ (l .inv .1) (omega (arith, c .before .loop-test .left)) (c .if2 .left) in
     let all : 64 * l .i ≡ 1280 = omega arith in
-    (ap (λ (x : Curve). x .number) (sym ends ∙ l .inv .1), λ z. rw all at (ap (λ (x : Curve). x .entries) (sym ends ∙ l .inv .1)), l .inv .2)
+    (ap (λ (x : Curve). x .number) ends, λ z. rw all at (ap (λ (x : Curve). x .entries) ends), l .inv .2)
 
 pub read-lines-spec : {M : Type 1} → statement M
 read-lines-spec =

@@ -54,12 +54,12 @@ returns c = let a = c .before .before .before .before .before .before .before .b
     let l = c .before .before .before .before .before .loop in
     let long = length-take-le (64 * a .i) (now (a .scratch)) (omega (arith, c .before .before .before .before .before .before .before .before .pre .1)) in
     let v = values-on (now (a .line)) (l .p) (64 * a .i + 64) (l .at) _ _ (c .before .before .before .before .loop-test .taken) (c .before .before .before .entry .ensures .0) refl in
-    let ends = rule-ends (a .i) (l .scratch) _ (l .inv .2) long (l .at) _ (l .inv .0) (c .before .before .before .before .loop-test .taken) (l .before) _ (sym (c .before .in-rule .ensures) ∙ not-true _ (c .if1 .taken)) in
+    let ends = rule-ends (a .i) (l .scratch) _ (l .inv .2) long (l .at) _ (l .inv .0) (c .before .before .before .before .loop-test .taken) (l .before) _ _ (c .before .in-rule .ensures) (not-true _ (c .if1 .taken)) in
     (sym (sym (l .inv .4) ∙ ap (inRule (l .before) _) v ∙ ends), λ e. absurd (false≢true e), l .inv .5)
 
 cast-scratch : tie.Need-cast-scratch Inv-loop μ-loop
 cast-scratch c = let l = c .before .before .before .before .before .loop in
-    omega (arith, tested-small (l .scratch) (l .at) (l .before) (c .before .before .before .entry .result .value) (sym (c .before .in-rule .ensures) ∙ not-false _ (c .if1 .left)))
+    omega (arith, tested-small (l .scratch) (l .at) (l .before) (c .before .before .before .entry .result .value) _ (c .before .in-rule .ensures) (not-false _ (c .if1 .left)))
 
 mul-scratch : tie.Need-mul-scratch Inv-loop μ-loop
 mul-scratch c = search needs
@@ -81,7 +81,7 @@ loop-again c = let a = c .before .before .before .before .before .before .before
     let l = c .before .before .before .before .before .before .loop in
     let long = length-take-le (64 * a .i) (now (a .scratch)) (omega (arith, c .before .before .before .before .before .before .before .before .before .pre .1)) in
     let v = values-on (now (a .line)) (l .p) (64 * a .i + 64) (l .at) _ _ (c .before .before .before .before .before .loop-test .taken) (c .before .before .before .before .entry .ensures .0) (c .eat .ensures) in
-    let on = rule-goes-on (a .i) (l .scratch) _ (l .inv .2) long (l .at) _ (l .inv .0) (c .before .before .before .before .before .loop-test .taken) (l .before) _ (sym (c .before .before .in-rule .ensures) ∙ not-false _ (c .before .if1 .left)) in (
+    let on = rule-goes-on (a .i) (l .scratch) _ (l .inv .2) long (l .at) _ (l .inv .0) (c .before .before .before .before .before .loop-test .taken) (l .before) _ _ (c .before .before .in-rule .ensures) (not-false _ (c .before .if1 .left)) in (
       omega arith,
       omega arith,
       take-set-le (64 * a .i) (l .scratch) (l .at) _ (l .inv .0) ∙ l .inv .2,
