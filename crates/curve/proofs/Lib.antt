@@ -5,6 +5,6 @@ pub mod Lines
 pub mod Room
 pub mod Copied
 pub mod Loaded
-pub mod Promise
+pub mod Checked
 pub mod Passes
 pub mod Rider

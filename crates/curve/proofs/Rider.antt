@@ -10,7 +10,7 @@ use Rattle.brake.proofs.Accepted.{in-range}
 use Rattle.brake.proofs.Over.{over-entry}
 use Rattle.curve.specs.Curve.{inRule, levelsGood, passes}
 use Rattle.curve.specs.Promises.{ConstantPasses, DrivesFit, Faster, Harder}
-use Rattle.curve.proofs.Promise.{table-long, entry-small, never-falls, level-above}
+use Rattle.curve.proofs.Checked.{table-long, entry-small, never-falls, level-above}
 
 pub constant-passes : ConstantPasses
 unfolding drives inRule levelsGood

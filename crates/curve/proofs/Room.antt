@@ -45,6 +45,10 @@ lines-never-11 (suc n) text at done e =
     ]
 
 -- ---- the promises
+pub refused-leaves-the-table : RefusedLeavesTheTable
+unfolding loaded
+refused-leaves-the-table text table scratch h = rw (ne-eqb (loadNumber text (length table) scratch) 0 h)
+
 pub room-for-1280 : RoomFor1280
 room-for-1280 text table scratch =
     record {
@@ -63,7 +67,3 @@ spare-scratch text table scratch other room room′ = (n, rw n)
           | equal fits ↦ by-text text (length table) scratch fits room ∙ sym (by-text text (length table) other fits room′)
           | differ h ↦ other-table text (length table) scratch h ∙ sym (other-table text (length table) other h)
         ]
-
-pub refused-leaves-the-table : RefusedLeavesTheTable
-unfolding loaded
-refused-leaves-the-table text table scratch h = rw (ne-eqb (loadNumber text (length table) scratch) 0 h)
