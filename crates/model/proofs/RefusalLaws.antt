@@ -101,7 +101,7 @@ start-says p e =
     let h = first-past 0 (badCount p) _ e in
     record { count = h .0; widths = first-past 1 (badWidths p (p .count)) [] (h .1) .0 }
 
-start-fine : (p : Plan) → PlanOk p → startNumber p ≡ 0
+pub start-fine : (p : Plan) → PlanOk p → startNumber p ≡ 0
 unfolding startNumber
 start-fine p ok = first-skip 1 _ _ (ok .count) ∙ first-skip 2 _ [] (ok .widths) ∙ first-none
 

@@ -12,7 +12,7 @@ use Rattle.model.specs.Calls as calls
 use Rattle.model.specs.Ledger.{Ledger, Call, begin, step, cut, wake, opening, judged, told, fed}
 use Rattle.model.specs.PowerCut.{call, run, closedBy}
 use Rattle.model.specs.Restart.{restarted, Leads, ended, called, lost, uncounted, PowerCutRestarting, RestartingAlike}
-use Rattle.model.proofs.RefusalLaws.{PlanOk, first-skip, first-none, cut-any}
+use Rattle.model.proofs.RefusalLaws.{PlanOk, start-fine, cut-any}
 use Rattle.model.proofs.LedgerLaws.{ledger-small}
 use Rattle.model.proofs.Invariant.{Inv}
 use Rattle.model.proofs.Keeps.{keeps}
@@ -44,9 +44,7 @@ alike c o o′ e = sym (count-alone c o′) ∙ ap (λ (x : Outcome). uncounted 
 -- ---- a start after an accepted cut
 pub starts : (p : Plan) → PlanOk p → calls.start p ≡ record { number = 0; device = asStarted p }
 unfolding calls.start startNumber
-starts p ok =
-    let e : startNumber p ≡ 0 = first-skip 1 _ _ (ok .count) ∙ first-skip 2 _ _ (ok .widths) ∙ first-none in
-    rw e
+starts p ok = rw (start-fine p ok)
 
 module _ (p : Plan) (ok : PlanOk p) (before : List ℕ) where
   cut-restarted : (o : Outcome) (m : ℕ) → o .device .plan ≡ p → call (cut m) o .number ≡ 0

@@ -194,14 +194,14 @@ restored p before cs m j left r e back fits =
     let W : Outcome = calls.wake (asStarted p) (o .image) in
     let woke : W .number ≡ 0 = zeros (h .steps) (h .accepted) .0 in
     let g = (rw is at back) (h .steps) started woke (h .needed) in
-    let none : W .device .stores ≡ 0 = ap (λ (d : Device). d .stores) (woken-as (asStarted p) (o .image) woke) in
+    let fresh : W .device .stores ≡ 0 = ap (λ (d : Device). d .stores) (woken-as (asStarted p) (o .image) woke) in
     let made =
-    all-counted (h .steps) W woke (zeros (h .steps) (h .accepted) .1) (omega (arith, none, few p ok (o .image) (h .needed))) in
+    all-counted (h .steps) W woke (zeros (h .steps) (h .accepted) .1) (omega (arith, fresh, few p ok (o .image) (h .needed))) in
     let inv = along p ok before (closedBy m cs) (opening p) F (format-opens (asStarted p) before z .1) .inv in
     record {
       number = g .number ∙ made .0;
       phase = ap (λ (d : Device). d .phase) (g .device) ∙ h .ready;
-      steps = ap (λ (d : Device). d .stores) (g .device) ∙ made .1 ∙ omega (arith, none, told-steps p before _ o inv (h .needed));
+      steps = ap (λ (d : Device). d .stores) (g .device) ∙ made .1 ∙ omega (arith, fresh, told-steps p before _ o inv (h .needed));
       markers = rw (g .image) (h .markers);
       copies = rw (g .image) (h .copies);
       rest = rw (g .image) (h .rest);
