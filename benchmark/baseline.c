@@ -27,25 +27,6 @@ static size_t base_of(const struct plan *plan, uint16_t unit) {
     return sum;
 }
 
-static uint16_t plan_number(const struct plan *plan) {
-    if (plan->count == 0 || plan->count > 8) return 1;
-    for (uint16_t i = 0; i < plan->count; i++)
-        if (plan->widths[i] == 0 || plan->widths[i] > 256) return 2;
-    return 0;
-}
-
-static uint16_t device_number(const struct device *d, size_t length) {
-    uint16_t number = plan_number(&d->plan);
-    if (number) return number;
-    if (length < base_of(&d->plan, d->plan.count)) return 3;
-    if (d->phase == WRITING || d->phase == RECOVERING) {
-        if (d->unit >= d->plan.count) return 4;
-        uint32_t w = d->plan.widths[d->unit];
-        if (d->made >= (d->phase == WRITING ? 2 * w + 3 : w + 1)) return 4;
-    }
-    return 0;
-}
-
 static void clean_up_from(struct device *d, const uint8_t *image, uint16_t from) {
     size_t at = base_of(&d->plan, from);
     for (uint16_t u = from; u < d->plan.count; u++) {
@@ -61,15 +42,6 @@ static void clean_up_from(struct device *d, const uint8_t *image, uint16_t from)
     d->phase = READY;
 }
 
-static void store_write(const struct device *d, uint8_t *unit, size_t w) {
-    size_t n = d->made;
-    if (n == 0) unit[0] = A;
-    else if (n <= w) unit[n] = d->payload[n - 1];
-    else if (n == w + 1) unit[0] = B;
-    else if (n <= 2 * w + 1) unit[n - 1] = d->payload[n - (w + 2)];
-    else unit[0] = OK;
-}
-
 static void store_cleanup(const struct device *d, uint8_t *unit, size_t w) {
     size_t n = d->made;
     if (n >= w) unit[0] = OK;
@@ -77,18 +49,33 @@ static void store_cleanup(const struct device *d, uint8_t *unit, size_t w) {
     else unit[1 + n] = unit[1 + w + n];
 }
 
-/* in place: what a pass does */
+/* in place: what a pass does; one walk over the widths, no test twice */
 __attribute__((noinline)) uint16_t pass(struct device *d, uint8_t *image, size_t length) {
-    uint16_t number = device_number(d, length);
-    if (number) return number;
+    uint32_t count = d->plan.count, u = d->unit, base = 0, total = 0;
+    if (count == 0 || count > 8) return 1;
+    for (uint32_t i = 0; i < count; i++) {
+        uint32_t w = d->plan.widths[i];
+        if (w == 0 || w > 256) return 2;
+        if (i == u) base = total;
+        total += 1 + 2 * w;
+    }
+    if (length < total) return 3;
     if (d->phase == COLD || d->phase == READY) return 5;
-    size_t w = d->plan.widths[d->unit];
-    uint8_t *unit = image + base_of(&d->plan, d->unit);
-    if (d->stores < UINT32_MAX) d->stores++;
+    if (u >= count) return 4;
+    uint32_t w = d->plan.widths[u], n = d->made;
+    uint8_t *unit = image + base;
     if (d->phase == WRITING) {
-        store_write(d, unit, w);
-        if (++d->made == 2 * w + 3) d->phase = READY;
+        int last = 0;
+        if (n <= w) { if (n == 0) unit[0] = A; else unit[n] = d->payload[n - 1]; }
+        else if (n <= 2 * w + 1) { if (n == w + 1) unit[0] = B; else unit[n - 1] = d->payload[n - (w + 2)]; }
+        else if (n == 2 * w + 2) { unit[0] = OK; last = 1; }
+        else return 4;
+        if (d->stores < UINT32_MAX) d->stores++;
+        d->made++;
+        if (last) d->phase = READY;
     } else {
+        if (n > w) return 4;
+        if (d->stores < UINT32_MAX) d->stores++;
         store_cleanup(d, unit, w);
         if (++d->made == w + 1) clean_up_from(d, image, d->unit + 1);
     }

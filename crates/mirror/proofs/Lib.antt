@@ -1,4 +1,5 @@
 pub mod Laws
+pub mod Picks
 pub mod Torn
 pub mod Part
 pub mod Search

@@ -1,117 +1,97 @@
-// The mirroring rules in code: the store that comes next, what a cut leaves of it, the phase after it, the search for a bad
-// unit, and format. Its users are the calls of the crate above, which refuse first: the functions here ask that refusals 1 to 4
-// do not apply.
+// The mirroring rules in code: the store that comes next, how it ends, the search for a bad unit, and format. Its users are the
+// calls of the crate above.
 ghost use mathlib.Core.Path.{_≡_};
 ghost use mathlib.Core.List.{_∷_};
 ghost use mathlib.Core.Bool.{cond};
 ghost use Prim.Native.Nat.{_+_, _-_, _<_, _≤_};
 ghost use lib.Dec.{eqb};
-ghost use lib.ListN.{length, set, getElem?, replicate};
-ghost use Rattle.model.specs.Layout.{marker, width, unitLength, base, total, get, formatted};
+ghost use lib.ListN.{length, set, getD, replicate};
+ghost use Rattle.model.specs.Layout.{marker, total, get, formatted};
 ghost use Rattle.model.proofs.RefusalLaws.{PlanOk};
-ghost use Rattle.model.specs.Marker.{OK, torn, direction, completed, tornBy};
-ghost use Rattle.model.specs.Refusals.{writeTotal, cleanupTotal, anyForeign};
-ghost use Rattle.model.specs.Stores.{writeStores, cleanupStores, stored};
-ghost use Rattle.model.specs.Calls.{next, phaseAfter, cleanupFrom};
-ghost use Rattle.mirror.specs.Placed.{Live, Chosen, Comes};
-use layout::Parts;
+ghost use Rattle.model.specs.Marker.{OK, torn, direction};
+ghost use Rattle.model.specs.Refusals.{anyForeign};
+ghost use Rattle.model.specs.Calls.{cleanupFrom};
+ghost use Rattle.layout.specs.Spans.{Sound};
+ghost use Rattle.mirror.specs.Picked.{Writes, Cleans};
+ghost use Rattle.mirror.specs.Ends.{ended, leaves, Stores, WriteEnds, CleanupEnds};
+use layout::Span;
 use layout::base_of;
-use layout::parts_of;
+use layout::device_number;
+use layout::span_of;
 use layout::unit_length;
-use layout::width_of;
 use model::Direction;
 use model::Marker;
 use model::Phase;
 use model::Plan;
+use model::refusals::BAD_JOB;
 
-// A store: its unit's span in the image, the offset in the span, the byte.
-struct Placed {
-    base: usize,
-    end: usize,
-    at: usize,
+// The store that comes next in a unit that was looked up: the offset in the unit's span, the byte, and how many stores of the job
+// were left, 2 for more than 1.
+struct Choice {
+    at: u32,
     byte: u8,
+    left: u8,
 }
 
-fn place(parts: Parts, at: usize, byte: u8) -> Placed
-    ensures { λ r. ⌜ r ≡ record { base = parts .base; end = parts .end; at = at; byte = byte } ⌝ }
+fn pick(at: u32, byte: u8, left: u8) -> Choice
+    ensures { λ r. ⌜ r ≡ record { at = at; byte = byte; left = left } ⌝ }
 {
-    Placed {
-        base: parts.base,
-        end: parts.end,
+    Choice {
         at: at,
         byte: byte,
+        left: left,
     }
 }
 
-// No store: its span ends at 0.
-fn nowhere() -> Placed
-    ensures { λ r. ⌜ r ≡ record { base = 0; end = 0; at = 0; byte = 0 } ⌝ }
+// The next store of a write: marker A, copy A, marker B, copy B, marker OK. What picks the store tells also whether it is the
+// last, or one too many.
+fn write_choice(span: Span, payload: &[u8], made: u16) -> Choice
+    requires { ⌜ Sound span × (length (now payload) ≡ 256) ⌝ }
+    ensures { λ r. ⌜ Writes span (now (payload .entry)) made r ⌝ }
 {
-    Placed {
-        base: 0,
-        end: 0,
-        at: 0,
-        byte: 0,
+    let width = span.width;
+    let n = made as u32;
+    if n <= width {
+        if n == 0 {
+            return pick(0, Marker::A, 2);
+        }
+        return pick(span.a + (n - 1), payload[(n - 1) as usize], 2);
     }
-}
-
-// The next store of a write: marker A, copy A, marker B, copy B, marker OK.
-fn write_store(plan: Plan, payload: &[u8], unit: u16, made: u16) -> Placed
-    requires { ⌜ PlanOk plan × (width plan unit ≤ 256) × (made < writeTotal (width plan unit)) × (length (now payload) ≡ 256) ⌝ }
-    ensures { λ r. ⌜ Chosen plan unit (getElem? (writeStores plan unit (now (payload .entry))) made) r ⌝ }
-{
-    let w = width_of(plan, unit) as usize;
-    let parts = parts_of(plan, unit);
-    let n = made as usize;
-    if n == 0 {
-        return place(parts, 0, Marker::A);
+    if n <= 2 * width + 1 {
+        if n == width + 1 {
+            return pick(0, Marker::B, 2);
+        }
+        return pick(
+            span.b + (n - (width + 2)),
+            payload[(n - (width + 2)) as usize],
+            2,
+        );
     }
-    if n <= w {
-        return place(parts, parts.a + (n - 1), payload[n - 1]);
+    if n == 2 * width + 2 {
+        return pick(0, Marker::OK, 1);
     }
-    if n == w + 1 {
-        return place(parts, 0, Marker::B);
-    }
-    if n <= 2 * w + 1 {
-        return place(parts, parts.b + (n - (w + 2)), payload[n - (w + 2)]);
-    }
-    place(parts, 0, Marker::OK)
+    pick(0, 0, 0)
 }
 
 // The next store of a cleanup: a byte of the good copy as it is now, or marker OK.
-fn cleanup_store(plan: Plan, image: &[u8], unit: u16, made: u16, direction: Direction) -> Placed
-    requires { ⌜ PlanOk plan × (base plan unit + unitLength plan unit ≤ length (now image)) × (made < cleanupTotal (width plan unit)) ⌝ }
-    ensures { λ r. ⌜ Chosen plan unit (getElem? (cleanupStores plan (now (image .entry)) unit direction) made) r ⌝ }
+fn clean_choice(span: Span, image: &[u8], made: u16, direction: Direction) -> Choice
+    requires { ⌜ Sound span × (span .end ≤ length (now image)) ⌝ }
+    ensures { λ r. ⌜ Cleans span (now (image .entry)) direction made r ⌝ }
 {
-    let w = width_of(plan, unit) as usize;
-    let parts = parts_of(plan, unit);
-    let n = made as usize;
-    if w <= n {
-        return place(parts, 0, Marker::OK);
+    let width = span.width;
+    let n = made as u32;
+    if n < width {
+        let a = span.a + n;
+        let b = span.b + n;
+        return match direction {
+            Direction::AToB => pick(b, image[(span.base + a) as usize], 2),
+            Direction::BToA => pick(a, image[(span.base + b) as usize], 2),
+        };
     }
-    let a = parts.a + n;
-    let b = parts.b + n;
-    match direction {
-        Direction::AToB => place(parts, b, image[parts.base + a]),
-        Direction::BToA => place(parts, a, image[parts.base + b]),
+    if n == width {
+        return pick(0, Marker::OK, 1);
     }
-}
-
-// The store that comes next. Cold and Ready have none: its span ends at 0.
-fn next_store(plan: Plan, payload: &[u8], phase: Phase, image: &[u8]) -> Placed
-    requires { ⌜ Live plan phase (now image) × (length (now payload) ≡ 256) ⌝ }
-    ensures { λ r. ⌜ Comes plan (now (image .entry)) (next plan (now (payload .entry)) (now (image .entry)) phase) r ⌝ }
-{
-    match phase {
-        Phase::Cold => nowhere(),
-        Phase::Ready => nowhere(),
-        Phase::Writing { unit, made } => write_store(plan, payload, unit, made),
-        Phase::Recovering {
-            unit,
-            made,
-            direction,
-        } => cleanup_store(plan, image, unit, made, direction),
-    }
+    pick(0, 0, 0)
 }
 
 // The storing routine: it is lent the writable span of its own unit, from the marker on, and nothing else.
@@ -122,12 +102,10 @@ fn put(span: &mut [u8], at: usize, byte: u8)
     span[at] = byte;
 }
 
-// Lends the storing routine its span.
-fn store_at(image: &mut [u8], base: usize, end: usize, at: usize, byte: u8)
-    requires { ⌜ (base + at < end) × (end ≤ length (now image)) ⌝ }
-    ensures { λ _. ⌜ now (image .exit) ≡ set (now (image .entry)) (base + at) byte ⌝ }
-{
-    put(&mut image[base..end], at, byte);
+// How a store ends: whole, or torn by a power cut with byte m.
+pub enum End {
+    Completed,
+    Torn(u8),
 }
 
 // Each bit is the new code's where m has a 1, and the old marker's where m has a 0.
@@ -138,40 +116,129 @@ fn torn_marker(old: u8, new: u8, m: u8) -> u8
 }
 
 // What a cut with byte m leaves of a store: a torn marker goes bit by bit, a torn data byte is m.
-fn torn_byte(at: usize, old: u8, new: u8, m: u8) -> u8
+fn torn_byte(at: u32, old: u8, new: u8, m: u8) -> u8
     ensures { λ r. ⌜ r ≡ cond (eqb at 0) (torn old new m) m ⌝ }
 {
     if at == 0 { torn_marker(old, new, m) } else { m }
 }
 
-// Makes the next store.
-pub fn make_store(plan: Plan, payload: &[u8], phase: Phase, image: &mut [u8])
-    requires { ⌜ Live plan phase (now image) × (length (now payload) ≡ 256) ⌝ }
-    ensures { λ _. ⌜ now (image .exit) ≡ stored plan (now (image .entry)) completed (next plan (now (payload .entry)) (now (image .entry)) phase) ⌝ }
+// What a store leaves at its place.
+fn left_byte(at: u32, old: u8, new: u8, end: End) -> u8
+    ensures { λ r. ⌜ r ≡ leaves (ended end) at old new ⌝ }
 {
-    let store = next_store(plan, payload, phase, &image[..]);
-    let base = store.base;
-    let end = store.end;
-    if end == 0 {
-        return;
+    match end {
+        End::Completed => new,
+        End::Torn(m) => torn_byte(at, old, new, m),
     }
-    store_at(&mut image[..], base, end, store.at, store.byte);
 }
 
-// Tears the next store: a cut with byte m.
-pub fn tear_store(plan: Plan, payload: &[u8], phase: Phase, image: &mut [u8], m: u8)
-    requires { ⌜ Live plan phase (now image) × (length (now payload) ≡ 256) ⌝ }
-    ensures { λ _. ⌜ now (image .exit) ≡ stored plan (now (image .entry)) (tornBy m) (next plan (now (payload .entry)) (now (image .entry)) phase) ⌝ }
+// Ends the store of a byte at an offset of a unit; the storing routine is lent the unit's span alone.
+fn end_store(image: &mut [u8], span: Span, at: u32, byte: u8, end: End)
+    requires { ⌜ (span .base + at < span .end) × (span .end ≤ length (now image)) ⌝ }
+    ensures { λ _. ⌜ now (image .exit) ≡ set (now (image .entry)) (span .base + at)
+        (leaves (ended end) at (getD (now (image .entry)) (span .base + at) 0) byte) ⌝ }
 {
-    let store = next_store(plan, payload, phase, &image[..]);
-    let base = store.base;
-    let end = store.end;
-    let at = store.at;
-    if end == 0 {
-        return;
+    let first = span.base as usize;
+    let past = span.end as usize;
+    let place = at as usize;
+    let leaves = left_byte(at, image[first + place], byte, end);
+    put(&mut image[first..past], place, leaves);
+}
+
+// What became of the next store of a job: 0, or the lowest of refusals 1 to 4, in which case none was made; and if it is 0 how many
+// stores were left before it, 2 for more than 1.
+pub struct Ended {
+    pub number: u16,
+    pub left: u8,
+}
+
+fn refused(number: u16) -> Ended
+    ensures { λ r. ⌜ r ≡ record { number = number; left = 0 } ⌝ }
+{
+    Ended {
+        number: number,
+        left: 0,
     }
-    let byte = torn_byte(at, image[base + at], store.byte, m);
-    store_at(&mut image[..], base, end, at, byte);
+}
+
+// Ends the next store of a write. The unit is looked up once.
+pub fn write_on(
+    plan: Plan,
+    payload: &[u8],
+    unit: u16,
+    made: u16,
+    image: &mut [u8],
+    end: End,
+) -> Ended
+    requires { ⌜ length (now payload) ≡ 256 ⌝ }
+    ensures { λ r. ⌜ WriteEnds plan (now (payload .entry)) unit made (ended end) (now (image .entry)) (now (image .exit)) r ⌝ }
+{
+    let span = span_of(plan, unit, image.len());
+    let number = span.number;
+    if number != 0 {
+        return refused(number);
+    }
+    let choice = write_choice(span, payload, made);
+    let left = choice.left;
+    if left == 0 {
+        return refused(BAD_JOB);
+    }
+    end_store(&mut image[..], span, choice.at, choice.byte, end);
+    Ended {
+        number: 0,
+        left: left,
+    }
+}
+
+// The same of a cleanup.
+pub fn clean_on(
+    plan: Plan,
+    unit: u16,
+    made: u16,
+    direction: Direction,
+    image: &mut [u8],
+    end: End,
+) -> Ended
+    ensures { λ r. ⌜ CleanupEnds plan unit made direction (ended end) (now (image .entry)) (now (image .exit)) r ⌝ }
+{
+    let span = span_of(plan, unit, image.len());
+    let number = span.number;
+    if number != 0 {
+        return refused(number);
+    }
+    let choice = clean_choice(span, &image[..], made, direction);
+    let left = choice.left;
+    if left == 0 {
+        return refused(BAD_JOB);
+    }
+    end_store(&mut image[..], span, choice.at, choice.byte, end);
+    Ended {
+        number: 0,
+        left: left,
+    }
+}
+
+// Ends the next store of a phase, of which Cold and Ready have none: 0, or the lowest of refusals 1 to 4.
+pub fn store_on(plan: Plan, payload: &[u8], phase: Phase, image: &mut [u8], end: End) -> u16
+    requires { ⌜ length (now payload) ≡ 256 ⌝ }
+    ensures { λ r. ⌜ Stores plan (now (payload .entry)) phase (ended end) (now (image .entry)) (now (image .exit)) r ⌝ }
+{
+    match phase {
+        Phase::Cold => device_number(plan, phase, image.len()),
+        Phase::Ready => device_number(plan, phase, image.len()),
+        Phase::Writing { unit, made } => {
+            let done = write_on(plan, payload, unit, made, &mut image[..], end);
+            done.number
+        }
+        Phase::Recovering {
+            unit,
+            made,
+            direction,
+        } => {
+            let done = clean_on(plan, unit, made, direction, &mut image[..], end);
+            done.number
+        }
+    }
 }
 
 // The way a cleanup copies, by the marker that it finds.
@@ -226,44 +293,6 @@ pub fn any_foreign(plan: Plan, image: &[u8]) -> bool
         }
     }
     false
-}
-
-// The phase after a store; `image` is the image after it.
-pub fn phase_after(plan: Plan, phase: Phase, image: &[u8]) -> Phase
-    requires { ⌜ Live plan phase (now image) ⌝ }
-    ensures { λ r. ⌜ r ≡ phaseAfter plan (now (image .entry)) phase ⌝ }
-{
-    match phase {
-        Phase::Cold => Phase::Cold,
-        Phase::Ready => Phase::Ready,
-        Phase::Writing { unit, made } => {
-            let width = width_of(plan, unit);
-            let next = made + 1;
-            if next == 2 * width + 3 {
-                return Phase::Ready;
-            }
-            Phase::Writing {
-                unit: unit,
-                made: next,
-            }
-        }
-        Phase::Recovering {
-            unit,
-            made,
-            direction,
-        } => {
-            let width = width_of(plan, unit);
-            let next = made + 1;
-            if next == width + 1 {
-                return cleanup_from(plan, image, unit + 1);
-            }
-            Phase::Recovering {
-                unit: unit,
-                made: next,
-                direction: direction,
-            }
-        }
-    }
 }
 
 // Zeros in all of a span.

@@ -14,9 +14,8 @@ use Rattle.model.specs.Layout.{marker, width, unitLength, base, get}
 use Rattle.model.specs.Refusals.{View, isReady, _when_, Refusal, first, deviceRow, readNumber, beginNumber}
 use Rattle.model.proofs.RefusalLaws.{first-skip, first-behind, first-front, first-refused, first-passed}
 use Rattle.model.proofs.LayoutLaws.{base-bound}
-use Rattle.layout.specs.Seen.{seen}
-use Rattle.mirror.specs.Placed.{Live}
-use Rattle.mirror.proofs.Laws.{room}
+use Rattle.layout.specs.Seen.{seen, Live}
+use Rattle.layout.proofs.Laws.{room}
 use Rattle.mirror.proofs.Search.{marker-at}
 
 -- ---- begin's row and read's row are one: at the unit's own width 7 does not hold

@@ -13,6 +13,11 @@ use mirror::any_foreign;
 use model::Marker;
 use model::Phase;
 use model::Plan;
+use model::refusals::BAD_MARKER;
+use model::refusals::FOREIGN_MARKER;
+use model::refusals::NO_UNIT;
+use model::refusals::WRONG_PHASE;
+use model::refusals::WRONG_SIZE;
 
 // Wrong phase for format and wake.
 fn not_cold(phase: Phase) -> bool
@@ -47,7 +52,7 @@ fn not_ready(phase: Phase) -> bool
 }
 
 // Wrong phase for step: there is no store to make.
-pub fn idle(phase: Phase) -> bool
+fn idle(phase: Phase) -> bool
     ensures { λ r. ⌜ r ≡ (isCold (jobOf phase) || isReady (jobOf phase)) ⌝ }
 {
     match phase {
@@ -70,7 +75,7 @@ fn phase_number(plan: Plan, phase: Phase, length: usize, wrong: bool) -> u16
     if number != 0 {
         return number;
     }
-    if wrong { 5 } else { 0 }
+    if wrong { WRONG_PHASE } else { 0 }
 }
 
 // Refusals 1 to 5 of format, for an image of `length` bytes.
@@ -96,14 +101,14 @@ pub fn begin_number(plan: Plan, phase: Phase, image: &[u8], unit: u16, size: usi
         return number;
     }
     if plan.count <= unit {
-        return 6;
+        return NO_UNIT;
     }
     if size != (width_of(plan, unit) as usize) {
-        return 7;
+        return WRONG_SIZE;
     }
     let base = base_of(plan, unit);
     if image[base] != Marker::OK {
-        return 8;
+        return BAD_MARKER;
     }
     0
 }
@@ -124,7 +129,7 @@ pub fn wake_number(plan: Plan, phase: Phase, image: &[u8]) -> u16
         return number;
     }
     if any_foreign(plan, image) {
-        return 14;
+        return FOREIGN_MARKER;
     }
     0
 }

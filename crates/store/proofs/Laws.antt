@@ -2,7 +2,6 @@
 use Prim.Native.Nat.{ℕ, zero, suc, _+_, _-_, _≤_}
 use mathlib.Core.Path.{_≡_, refl, ap, ap₂, sym, _∙_}
 use mathlib.Core.List.{List, [], _++_}
-use mathlib.Core.Option.{Option}
 use mathlib.Core.Bool.{not}
 use native.Mathlib.Omega.{arith}
 use lib.Dec.{leb}
@@ -15,18 +14,14 @@ use Rattle.model.specs.declared.Plan.{Plan}
 use Rattle.model.specs.declared.Inspection.the-variants.{Refused}
 use Rattle.model.specs.declared.Phase.{Phase}
 use Rattle.model.specs.declared.Phase.the-variants.{Cold}
-use Rattle.model.specs.Marker.{End}
 use Rattle.model.specs.Layout.{copyA, width, copyOf}
 use Rattle.model.specs.Refusals.{isReady, first, deviceRow, inspectNumber, readNumber, beginNumber}
-use Rattle.model.specs.Stores.{Store, stored}
-use Rattle.model.specs.Calls.{jobOf, viewOf, view, Outcome, unlessRefused, noPlan, startAnswer, partUnlessRefused, cleanupFrom, inspection, inspect}
+use Rattle.model.specs.Calls.{jobOf, viewOf, view, Outcome, outcome, unlessRefused, noPlan, startAnswer, partUnlessRefused, cleanupFrom, inspection, inspect}
 use Rattle.model.proofs.RefusalLaws.{first-past, past, begin-says, width-bounds}
-use Rattle.model.proofs.LayoutLaws.{copy-bound, length-stored}
-use Rattle.layout.specs.declared.Parts.{Parts}
-use Rattle.layout.specs.Parts.{partsOf}
-use Rattle.mirror.specs.Placed.{Live}
-use Rattle.mirror.proofs.Laws.{room}
-use Rattle.refusal.proofs.Laws.{live, unit-inside}
+use Rattle.layout.specs.declared.Span.{Span}
+use Rattle.layout.specs.Spans.{spanOf, Spans, Sound}
+use Rattle.layout.proofs.Laws.{room, span-sound, span-inside, looked-up}
+use Rattle.refusal.proofs.Laws.{live}
 use Rattle.mirror.proofs.Search.{cleaned, search-names}
 
 -- ---- k is the code's number, n the definition's
@@ -40,23 +35,39 @@ pub accepted : (r : Answer) (left : List ℕ) (d : Device) (image : List ℕ) (k
 accepted r left d image k zero o e z g = g
 accepted r left d image k (suc n) o e z g = absurd (omega arith)
 
+-- ---- a step's outcome is the answer's
+pub gives : (d : Device) (k : ℕ) (left : List ℕ) (o : Outcome) → outcome k (modelled d) left ≡ o
+    → Gives (record { number = k; device = d }) left o
+gives d k left o e =
+    record {
+      number = ap (λ (x : Outcome). x .number) e;
+      device = ap (λ (x : Outcome). x .device) e;
+      image = ap (λ (x : Outcome). x .image) e;
+    }
+
+-- ---- a unit that was looked up where nothing refuses
+pub record Looked (p : Plan) (u n : ℕ) (q : Span) : Type 0 where
+  pub is : q ≡ spanOf p u
+  pub sound : Sound q
+  pub inside : q .end ≤ n
+
 -- ---- what a device and its image have
 module _ (p : Plan) (phase : Phase) (image : List ℕ) where
-  -- what an accepted read and an accepted begin have
-  pub read-inside : (k u : ℕ) (q : Parts) → q ≡ partsOf p u → k ≡ readNumber (viewOf p phase image) u → k ≡ 0
-      → q .base + q .a + width p u ≤ length image
+  -- the unit of an accepted read, looked up
+  pub read-looks : (k u : ℕ) → k ≡ readNumber (viewOf p phase image) u → k ≡ 0 → (q : Span) → Spans p u (length image) q
+      → Looked p u (length image) q
   unfolding readNumber
-  read-inside k u q eq e z =
+  read-looks k u e z q s =
       let n : first (deviceRow (viewOf p phase image) ++ _) ≡ 0 = sym e ∙ z in
       let h₅ = first-past 4 (not (isReady (jobOf phase))) _ (past (viewOf p phase image) _ n .more) in
-      let h₆ = first-past 5 (leb (p .count) u) _ (h₅ .1) in
-      let l = live p phase image k _ e z in
-      omega (
-        arith,
-        ap (λ (t : Parts). t .base + t .a) eq,
-        copy-bound p (room p phase image l .ok) u copyA,
-        unit-inside p phase image l u (leb-false (p .count) u (h₆ .0)),
-      )
+      let h = leb-false (p .count) u (first-past 5 (leb (p .count) u) _ (h₅ .1) .0) in
+      let r = room p phase image (live p phase image k _ e z) in
+      let is = s .is (looked-up p (r .ok) u h (length image) q (r .long) s) in
+      record {
+        is = is;
+        sound = span-sound p (r .ok) u h q is;
+        inside = span-inside p (r .ok) u h (length image) q (r .long) is;
+      }
 
   pub begin-narrow : (k u : ℕ) (payload : List ℕ) → k ≡ beginNumber (viewOf p phase image) u (length payload) → k ≡ 0
       → length payload ≤ 256
@@ -67,19 +78,12 @@ module _ (p : Plan) (phase : Phase) (image : List ℕ) where
       omega (arith, began .size, width-bounds p (r .ok) u (began .unit) .1)
 
   -- the part that read hands out
-  pub copy-part : (u w : ℕ) (q : Parts) → q ≡ partsOf p u → w ≡ width p u
-      → take ((q .base + q .a + w) - (q .base + q .a)) (drop (q .base + q .a) image) ≡ copyOf p image u copyA
+  pub copy-part : (u : ℕ) (q : Span) → q ≡ spanOf p u
+      → take ((q .base + q .a + q .width) - (q .base + q .a)) (drop (q .base + q .a) image) ≡ copyOf p image u copyA
   unfolding copyOf
-  copy-part u w q eq ew =
-      let size : (q .base + q .a + w) - (q .base + q .a) ≡ width p u = omega arith in
-      ap₂ (λ (n i : ℕ). take n (drop i image)) size (ap (λ (t : Parts). t .base + t .a) eq)
-
-  -- also after a store
-  pub live-stored : (image′ : List ℕ) (e : End) (o : Option Store) → image′ ≡ stored p image e o → Live p phase image
-      → Live p phase image′
-  live-stored image′ e o is h =
-      let same : length image′ ≡ length image = ap length is ∙ length-stored p image e o in
-      rw same h
+  copy-part u q is =
+      let size : (q .base + q .a + q .width) - (q .base + q .a) ≡ width p u = omega (arith, ap (λ (t : Span). t .width) is) in
+      ap₂ (λ (n i : ℕ). take n (drop i image)) size (ap (λ (t : Span). t .base + t .a) is)
 
 -- ---- start: the code's device is that of the plan none, which is all zeros, or of the plan given
 pub start-refused : (p : Plan) (d : Device) (k n : ℕ) → k ≡ n → ¬ (k ≡ 0)

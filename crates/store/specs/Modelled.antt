@@ -11,13 +11,6 @@ use Rattle.model.specs.Calls as model
 abbrev pub modelled : Device → model.Device
 modelled d = record { plan = d .plan; payload = d .payload; phase = d .phase; stores = d .stores }
 
--- a device by its parts, and an answer with it
-abbrev pub held : Plan → List ℕ → Phase → ℕ → Device
-held p payload phase stores = record { plan = p; payload = payload; phase = phase; stores = stores }
-
-abbrev pub answer : ℕ → Plan → List ℕ → Phase → ℕ → Answer
-answer n p payload phase stores = record { number = n; device = held p payload phase stores }
-
 -- start, format and cut leave a zero payload
 abbrev pub blanked : Plan → Phase → ℕ → model.Device
 blanked p phase stores = record { plan = p; payload = model.zeroPayload; phase = phase; stores = stores }

@@ -5,26 +5,25 @@ ghost use mathlib.Core.Path.{_≡_};
 ghost use Prim.Native.Nat.{_≤_};
 ghost use lib.ListN.{length};
 ghost use Rattle.model.specs.Refusals.{readNumber};
-ghost use Rattle.model.specs.Calls.{view, padded, counted, start, format, begin, step, wake, cut, read, inspect};
-ghost use Rattle.store.specs.Modelled.{modelled, blanked, held, answer, Gives, Starts};
+ghost use Rattle.model.specs.Calls.{view, padded, outcome, start, format, begin, step, wake, cut, read, inspect};
+ghost use Rattle.advance.specs.Advances.{parts};
+ghost use Rattle.store.specs.Modelled.{modelled, blanked, Gives, Starts};
 ghost use Rattle.store.specs.Steps.{steps};
+use advance::Advanced;
+use advance::advance;
 use layout::device_number;
-use layout::parts_of;
 use layout::plan_number;
-use layout::width_of;
+use layout::span_of;
+use mirror::End;
 use mirror::cleanup_from;
 use mirror::format_units;
-use mirror::make_store;
-use mirror::phase_after;
-use mirror::tear_store;
+use mirror::store_on;
 use model::Inspection;
 use model::Phase;
 use model::Plan;
 use refusal::begin_number;
 use refusal::format_number;
-use refusal::idle;
 use refusal::read_number;
-use refusal::step_number;
 use refusal::wake_number;
 
 // `stores` counts the completed stores, for the memory chip's rating.
@@ -40,9 +39,6 @@ pub struct Answer {
     pub device: Device,
     pub number: u16,
 }
-
-// The count of stores holds here.
-const MOST_STORES: u32 = 4294967295;
 
 // A payload as the device holds it: zeros after it.
 fn zero_filled(payload: &[u8]) -> [u8; 256]
@@ -70,47 +66,7 @@ fn blank(plan: Plan, phase: Phase, stores: u32) -> Device
     }
 }
 
-// One completed store more; the count holds at its largest.
-fn count_one(stores: u32) -> u32
-    ensures { λ r. ⌜ r ≡ counted stores ⌝ }
-{
-    if MOST_STORES <= stores {
-        return stores;
-    }
-    stores + 1
-}
-
-// What steps come to: the number of the last, and the phase and the count after it. Plan and payload stay.
-struct Advanced {
-    number: u16,
-    phase: Phase,
-    stores: u32,
-}
-
-// A step, on the parts of a device; a refused one is not counted.
-fn advance(plan: Plan, payload: &[u8], phase: Phase, before: u32, image: &mut [u8]) -> Advanced
-    requires { ⌜ length (now payload) ≡ 256 ⌝ }
-    ensures { λ r. ⌜ Gives (answer (r .number) plan (now (payload .entry)) (r .phase) (r .stores)) (now (image .exit))
-        (step (modelled (held plan (now (payload .entry)) phase before)) (now (image .entry))) ⌝ }
-{
-    let number = step_number(plan, phase, image.len());
-    if number != 0 {
-        return Advanced {
-            number: number,
-            phase: phase,
-            stores: before,
-        };
-    }
-    make_store(plan, payload, phase, &mut image[..]);
-    let after = phase_after(plan, phase, &image[..]);
-    Advanced {
-        number: 0,
-        phase: after,
-        stores: count_one(before),
-    }
-}
-
-// Up to `count` steps. A device that refusals 1 to 4 let pass stays so, so they are looked at once.
+// Up to `count` steps, ending early at a refusal.
 fn advance_by(
     plan: Plan,
     payload: &[u8],
@@ -120,43 +76,25 @@ fn advance_by(
     count: u16,
 ) -> Advanced
     requires { ⌜ length (now payload) ≡ 256 ⌝ }
-    ensures { λ r. ⌜ Gives (answer (r .number) plan (now (payload .entry)) (r .phase) (r .stores)) (now (image .exit))
-        (steps count (modelled (held plan (now (payload .entry)) from since)) (now (image .entry))) ⌝ }
+    ensures { λ r. ⌜ outcome (r .number) (parts plan (now (payload .entry)) (r .phase) (r .stores)) (now (image .exit))
+        ≡ steps count (parts plan (now (payload .entry)) from since) (now (image .entry)) ⌝ }
 {
-    if count == 0 {
-        return Advanced {
-            number: 0,
-            phase: from,
-            stores: since,
-        };
-    }
-    let number = device_number(plan, from, image.len());
-    if number != 0 {
-        return Advanced {
-            number: number,
-            phase: from,
-            stores: since,
-        };
-    }
-    let mut reached = from;
+    let mut phase = from;
     let mut stores = since;
     let mut made: u16 = 0;
     while made < count {
-        if idle(reached) {
-            return Advanced {
-                number: 5,
-                phase: reached,
-                stores: stores,
-            };
+        let after = advance(plan, payload, phase, stores, &mut image[..]);
+        let refusal = after.number;
+        if refusal != 0 {
+            return after;
         }
-        make_store(plan, payload, reached, &mut image[..]);
-        reached = phase_after(plan, reached, &image[..]);
-        stores = count_one(stores);
+        phase = after.phase;
+        stores = after.stores;
         made = made + 1;
     }
     Advanced {
         number: 0,
-        phase: reached,
+        phase: phase,
         stores: stores,
     }
 }
@@ -241,11 +179,10 @@ impl Device {
         let phase = self.phase;
         let stores = self.stores;
         let after = advance(plan, &payload, phase, stores, &mut image[..]);
-        let number = after.number;
         let next = after.phase;
         let made = after.stores;
         Answer {
-            number: number,
+            number: after.number,
             device: Device {
                 plan: plan,
                 payload: payload,
@@ -312,20 +249,25 @@ impl Device {
         ensures { λ r. ⌜ Gives r (now (image .exit)) (cut (modelled self) (now (image .entry)) m) ⌝ }
     {
         let plan = self.plan;
+        let payload = self.payload;
         let phase = self.phase;
-        let number = device_number(plan, phase, image.len());
+        let torn = self.stores;
+        let number = store_on(plan, &payload, phase, &mut image[..], End::Torn(m));
         if number != 0 {
             return Answer {
                 number: number,
                 device: self,
             };
         }
-        let payload = self.payload;
-        let stores = self.stores;
-        tear_store(plan, &payload, phase, &mut image[..], m);
+        let zeros = [0u8; 256];
         Answer {
             number: 0,
-            device: blank(plan, Phase::Cold, stores),
+            device: Device {
+                plan: plan,
+                payload: zeros,
+                phase: Phase::Cold,
+                stores: torn,
+            },
         }
     }
 
@@ -348,9 +290,9 @@ impl Device {
         if number != 0 {
             return &image[..0];
         }
-        let parts = parts_of(plan, unit);
-        let start = parts.base + parts.a;
-        let end = start + (width_of(plan, unit) as usize);
+        let span = span_of(plan, unit, image.len());
+        let start = (span.base + span.a) as usize;
+        let end = start + (span.width as usize);
         &image[start..end]
     }
 

@@ -1,25 +1,28 @@
 -- `layout::device_number` meets its contract: the plan's row first, then 3, then 4 by the phase.
 use mathlib.Core.Path.{sym, _∙_}
 use borrow.Author.Tests.{lt-ltb}
-use borrow.Author.Needs.{needs}
 use Rattle.model.specs.Refusals.{first, badJob, startNumber}
 use Rattle.model.proofs.RefusalLaws.{first-refused, first-stop, plan-passed}
 use Rattle.layout.proofs.Laws.{before-job}
+use borrow.Author.Needs.{needs}
 use Rattle.layout.proofs.device_number.Statement.{statement}
 use Rattle.layout.proofs.device_number.Tie as tie
 
 measure-requires : tie.Need-measure-requires
 measure-requires c κs = search needs
 
+cast-total : tie.Need-cast-total
+cast-total c = search needs
+
 returns : tie.Need-returns
 unfolding startNumber
-returns c = let n = c .before .measure .ensures .0 in n ∙ sym (first-refused _ _ (λ e. c .if1 .taken (n ∙ e)))
+returns c = let n = c .before .before .measure .ensures .number in n ∙ sym (first-refused _ _ (λ e. c .if1 .taken (n ∙ e)))
 
 returns-2 : tie.Need-returns-2
-returns-2 c = let a = c .before .before .before .args in
-    let m = c .before .before .measure .ensures in
-    sym (plan-passed (a .plan) _ (sym (m .0) ∙ c .before .if1 .left)
-    ∙ first-stop 3 _ _ (lt-ltb (a .length) _ (rw (m .1 (c .before .if1 .left)) at (c .if2 .taken))))
+returns-2 c = let a = c .before .before .before .before .args in
+    let m = c .before .before .before .measure .ensures in
+    sym (plan-passed (a .plan) _ (sym (m .number) ∙ c .before .if1 .left)
+    ∙ first-stop 3 _ _ (lt-ltb (a .length) _ (rw (m .total (c .before .if1 .left)) at (c .if2 .taken))))
 
 enum-told : tie.Need-enum-told
 enum-told c = search needs
@@ -62,34 +65,34 @@ job-number-requires-2 c κs = search needs
 
 returns-3 : tie.Need-returns-3
 unfolding badJob first
-returns-3 c = let a = c .before .before .before .before .before .args in
-    let m = c .before .before .before .before .measure .ensures in
+returns-3 c = let a = c .before .before .before .before .before .before .args in
+    let m = c .before .before .before .before .before .measure .ensures in
     let z = c .before .before .before .if1 .left in
-    sym (before-job (a .plan) (a .phase) (a .length) _ _ (m .0) z (m .1 z) (c .before .before .if2 .left)
+    sym (before-job (a .plan) (a .phase) (a .length) _ _ (m .number) z (m .total z) (c .before .before .if2 .left)
     ∙ rw (c .enum-told .given .1))
 
 returns-4 : tie.Need-returns-4
 unfolding badJob first
-returns-4 c = let a = c .before .before .before .before .before .args in
-    let m = c .before .before .before .before .measure .ensures in
+returns-4 c = let a = c .before .before .before .before .before .before .args in
+    let m = c .before .before .before .before .before .measure .ensures in
     let z = c .before .before .before .if1 .left in
-    sym (before-job (a .plan) (a .phase) (a .length) _ _ (m .0) z (m .1 z) (c .before .before .if2 .left)
+    sym (before-job (a .plan) (a .phase) (a .length) _ _ (m .number) z (m .total z) (c .before .before .if2 .left)
     ∙ rw (c .enum-told2 .given .1))
 
 returns-5 : tie.Need-returns-5
 unfolding badJob
-returns-5 c = let a = c .before .before .before .before .before .before .before .before .args in
-    let m = c .before .before .before .before .before .before .before .measure .ensures in
+returns-5 c = let a = c .before .before .before .before .before .before .before .before .before .args in
+    let m = c .before .before .before .before .before .before .before .before .measure .ensures in
     let z = c .before .before .before .before .before .before .if1 .left in
-    c .job-number .ensures ∙ sym (before-job (a .plan) (a .phase) (a .length) _ _ (m .0) z (m .1 z) (c .before .before .before .before .before .if2 .left)
+    c .job-number .ensures ∙ sym (before-job (a .plan) (a .phase) (a .length) _ _ (m .number) z (m .total z) (c .before .before .before .before .before .if2 .left)
     ∙ rw (c .before .before .before .phase .given .1, ← c .before .width-of .ensures))
 
 returns-6 : tie.Need-returns-6
 unfolding badJob
-returns-6 c = let a = c .before .before .before .before .before .before .before .before .args in
-    let m = c .before .before .before .before .before .before .before .measure .ensures in
+returns-6 c = let a = c .before .before .before .before .before .before .before .before .before .args in
+    let m = c .before .before .before .before .before .before .before .before .measure .ensures in
     let z = c .before .before .before .before .before .before .if1 .left in
-    c .job-number2 .ensures ∙ sym (before-job (a .plan) (a .phase) (a .length) _ _ (m .0) z (m .1 z) (c .before .before .before .before .before .if2 .left)
+    c .job-number2 .ensures ∙ sym (before-job (a .plan) (a .phase) (a .length) _ _ (m .number) z (m .total z) (c .before .before .before .before .before .if2 .left)
     ∙ rw (c .before .before .before .phase2 .given .1, ← c .before .width-of2 .ensures))
 
 pub device-number-spec : {M : Type 1} → statement M
@@ -97,6 +100,7 @@ device-number-spec =
     tie.close
     (tie.spec
     measure-requires
+    cast-total
     returns
     returns-2
     enum-told

@@ -7,7 +7,7 @@ measure-requires : tie.Need-measure-requires
 measure-requires c κs = search needs
 
 returns : tie.Need-returns
-returns c = c .measure .ensures .0
+returns c = c .measure .ensures .number
 
 pub plan-number-spec : {M : Type 1} → statement M
 plan-number-spec = tie.close (tie.spec measure-requires returns)

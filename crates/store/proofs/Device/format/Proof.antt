@@ -4,7 +4,7 @@ use denote.Ref.{now}
 use borrow.Author.Needs.{needs}
 use Rattle.model.specs.Refusals.{formatNumber}
 use Rattle.model.specs.Calls.{format}
-use Rattle.mirror.proofs.Laws.{room}
+use Rattle.layout.proofs.Laws.{room}
 use Rattle.refusal.proofs.Laws.{live}
 use Rattle.store.proofs.Laws.{refused, accepted}
 use Rattle.store.proofs.Device.format.Statement.{statement}

@@ -3,7 +3,7 @@ use denote.Ref.{now}
 use mathlib.Core.List.{[]}
 use borrow.Author.Needs.{needs}
 use Rattle.model.specs.Refusals.{inspectNumber}
-use Rattle.mirror.proofs.Laws.{room}
+use Rattle.layout.proofs.Laws.{room}
 use Rattle.refusal.proofs.Laws.{live}
 use Rattle.store.proofs.Laws.{inspect-refused, inspect-says}
 use Rattle.store.proofs.Device.inspect.Statement.{statement}

@@ -1,10 +1,10 @@
--- `Device::read` meets its contract: the part from the byte after the marker on.
+-- `Device::read` meets its contract: the part that is copy A.
 use native.Mathlib.Omega.{arith}
 use mathlib.Core.Path.{_∙_}
 use denote.Ref.{now}
-use borrow.Author.Needs.{needs}
 use Rattle.model.specs.Calls.{read}
-use Rattle.store.proofs.Laws.{read-inside, copy-part, part-refused, part-shown}
+use Rattle.store.proofs.Laws.{read-looks, copy-part, part-refused, part-shown}
+use borrow.Author.Needs.{needs}
 use Rattle.store.proofs.Device.read.Statement.{statement}
 use Rattle.store.proofs.Device.read.Tie as tie
 
@@ -18,14 +18,16 @@ returns : tie.Need-returns
 unfolding read
 returns c = part-refused _ _ _ (c .before .before .read-number .ensures) (c .before .if1 .taken)
 
-parts-of-requires : tie.Need-parts-of-requires
-parts-of-requires c κs = search needs
+span-of-requires : tie.Need-span-of-requires
+span-of-requires c κs = search needs
 
 add-start : tie.Need-add-start
-add-start c = search needs
+add-start c = let a = c .before .before .before .before .before .before .args in
+    let q = read-looks (a .self .plan) (a .self .phase) (now (a .image)) _ (a .unit) (c .before .before .before .read-number .ensures) (c .before .before .if1 .left) _ (c .before .span-of .ensures) in
+    record { fits = omega (arith, q .sound) }
 
-width-of-requires : tie.Need-width-of-requires
-width-of-requires c κs = search needs
+cast-start : tie.Need-cast-start
+cast-start c = search needs
 
 cast-end : tie.Need-cast-end
 cast-end c = search needs
@@ -41,12 +43,14 @@ part-result-start c = search needs
 
 part-result-end : tie.Need-part-result-end
 part-result-end c = let a = c .before .before .before .before .before .before .before .args in
-    omega (arith, read-inside (a .self .plan) (a .self .phase) (now (a .image)) _ (a .unit) _ (c .before .before .parts-of .ensures .0) (c .before .before .before .before .read-number .ensures) (c .before .before .before .if1 .left), c .width-of .ensures)
+    let q = read-looks (a .self .plan) (a .self .phase) (now (a .image)) _ (a .unit) (c .before .before .before .before .read-number .ensures) (c .before .before .before .if1 .left) _ (c .before .before .span-of .ensures) in
+    omega (arith, q .sound, q .inside)
 
 returns-2 : tie.Need-returns-2
 unfolding read
 returns-2 c = let a = c .before .before .before .before .before .before .before .before .args in
-    copy-part (a .self .plan) (a .self .phase) (now (a .image)) (a .unit) _ _ (c .before .before .before .parts-of .ensures .0) (c .before .width-of .ensures)
+    let q = read-looks (a .self .plan) (a .self .phase) (now (a .image)) _ (a .unit) (c .before .before .before .before .before .read-number .ensures) (c .before .before .before .before .if1 .left) _ (c .before .before .before .span-of .ensures) in
+    copy-part (a .self .plan) (a .self .phase) (now (a .image)) (a .unit) _ (q .is)
     ∙ part-shown _ _ _ (c .before .before .before .before .before .read-number .ensures) (c .before .before .before .before .if1 .left)
 
 pub read-spec : {M : Type 1} → statement M
@@ -56,9 +60,9 @@ read-spec =
     read-number-requires
     slice-aggregate-result
     returns
-    parts-of-requires
+    span-of-requires
     add-start
-    width-of-requires
+    cast-start
     cast-end
     add-end
     sub-result

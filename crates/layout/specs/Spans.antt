@@ -1,0 +1,48 @@
+-- A plan measured, and a unit of it looked up: what refusals 1 to 4 leave to be asked of it.
+use Prim.Native.Nat.{ℕ, _+_, _<_, _≤_}
+use mathlib.Core.Path.{_≡_}
+use mathlib.Core.List.{[], _∷_, _++_}
+use mathlib.Core.Bool.{Bool, _||_}
+use lib.Dec.{ltb, leb}
+use Rattle.layout.specs.declared.Measured.{Measured}
+use Rattle.layout.specs.declared.Span.{Span}
+use Rattle.model.specs.declared.Plan.{Plan}
+use Rattle.model.specs.Layout.{copyA, copyB, byte, width, unitLength, offset, base, total}
+use Rattle.model.specs.Refusals.{SHORT-IMAGE, BAD-JOB, _when_, first, planRow, startNumber}
+use Rattle.model.proofs.RefusalLaws.{PlanOk}
+
+pub record Measures (p : Plan) (u : ℕ) (r : Measured) : Type 0 where
+  pub number : r .number ≡ startNumber p
+  pub total : r .number ≡ 0 → r .total ≡ total p
+  pub base : r .number ≡ 0 → u < p .count → r .base ≡ base p u
+
+-- where the parts of a unit lie
+abbrev pub spanOf : Plan → ℕ → Span
+spanOf p u =
+    record {
+      base = base p u;
+      end = base p u + unitLength p u;
+      a = offset p u (byte copyA 0);
+      b = offset p u (byte copyB 0);
+      width = width p u;
+      number = 0;
+    }
+
+-- the row of a job at unit u; `late` is what refusal 4 says of its stores
+abbrev pub jobRow : Plan → ℕ → ℕ → Bool → ℕ
+jobRow p u length late = first (planRow p ++ (SHORT-IMAGE when ltb length (total p) ∷ BAD-JOB when (leb (p .count) u || late) ∷ []))
+
+pub record Spans (p : Plan) (u length : ℕ) (r : Span) : Type 0 where
+  pub refused : ¬ (r .number ≡ 0) → (late : Bool) → r .number ≡ jobRow p u length late
+  pub plan : r .number ≡ 0 → PlanOk p
+  pub long : r .number ≡ 0 → total p ≤ length
+  pub unit : r .number ≡ 0 → u < p .count
+  pub is : r .number ≡ 0 → r ≡ spanOf p u
+
+-- what every such span has
+pub record Sound (r : Span) : Type 0 where
+  pub narrow : r .width ≤ 256
+  pub marker : 0 < r .a
+  pub copies : r .a + r .width ≤ r .b
+  pub ends : r .base + r .b + r .width ≤ r .end
+  pub most : r .end ≤ 4104
