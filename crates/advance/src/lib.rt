@@ -8,12 +8,12 @@ ghost use Rattle.layout.specs.Seen.{seen};
 ghost use Rattle.advance.specs.Advances.{Advances, AdvancesAll};
 use mirror::End;
 use mirror::clean_on;
-use mirror::cleanup_from;
 use mirror::write_on;
 use model::Direction;
 use model::Phase;
 use model::Plan;
 use refusal::step_number;
+use search::cleanup_from;
 
 // The count of stores holds here.
 const MOST_STORES: u32 = 4294967295;

@@ -2,5 +2,3 @@ pub mod Laws
 pub mod Picks
 pub mod Torn
 pub mod Part
-pub mod Search
-pub mod Format

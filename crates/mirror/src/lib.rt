@@ -1,24 +1,16 @@
-// The mirroring rules in code: the store that comes next, how it ends, the search for a bad unit, and format. Its users are the
-// calls of the crate above.
+// The mirroring rules in code: the store that comes next in a write or a cleanup, and how it ends, whole or torn.
 ghost use mathlib.Core.Path.{_≡_};
-ghost use mathlib.Core.List.{_∷_};
 ghost use mathlib.Core.Bool.{cond};
-ghost use Prim.Native.Nat.{_+_, _-_, _<_, _≤_};
+ghost use Prim.Native.Nat.{_+_, _<_, _≤_};
 ghost use lib.Dec.{eqb};
-ghost use lib.ListN.{length, set, getD, replicate};
-ghost use Rattle.model.specs.Layout.{marker, total, get, formatted};
-ghost use Rattle.model.proofs.RefusalLaws.{PlanOk};
-ghost use Rattle.model.specs.Marker.{OK, torn, direction};
-ghost use Rattle.model.specs.Refusals.{anyForeign};
-ghost use Rattle.model.specs.Calls.{cleanupFrom};
+ghost use lib.ListN.{length, set, getD};
+ghost use Rattle.model.specs.Marker.{torn};
 ghost use Rattle.layout.specs.Spans.{Sound};
 ghost use Rattle.mirror.specs.Picked.{Writes, Cleans};
 ghost use Rattle.mirror.specs.Ends.{ended, leaves, Stores, WriteEnds, CleanupEnds};
 use layout::Span;
-use layout::base_of;
 use layout::device_number;
 use layout::span_of;
-use layout::unit_length;
 use model::Direction;
 use model::Marker;
 use model::Phase;
@@ -55,17 +47,15 @@ fn write_choice(span: Span, payload: &[u8], made: u16) -> Choice
         if n == 0 {
             return pick(0, Marker::A, 2);
         }
-        return pick(span.a + (n - 1), payload[(n - 1) as usize], 2);
+        let i = n - 1;
+        return pick(span.a + i, payload[i as usize], 2);
     }
     if n <= 2 * width + 1 {
         if n == width + 1 {
             return pick(0, Marker::B, 2);
         }
-        return pick(
-            span.b + (n - (width + 2)),
-            payload[(n - (width + 2)) as usize],
-            2,
-        );
+        let j = n - (width + 2);
+        return pick(span.b + j, payload[j as usize], 2);
     }
     if n == 2 * width + 2 {
         return pick(0, Marker::OK, 1);
@@ -238,95 +228,5 @@ pub fn store_on(plan: Plan, payload: &[u8], phase: Phase, image: &mut [u8], end:
             let done = clean_on(plan, unit, made, direction, &mut image[..], end);
             done.number
         }
-    }
-}
-
-// The way a cleanup copies, by the marker that it finds.
-fn direction_of(marker: u8) -> Direction
-    ensures { λ r. ⌜ r ≡ direction marker ⌝ }
-{
-    let meaning = Marker::classify(marker);
-    match meaning {
-        Marker::Clean => Direction::AToB,
-        Marker::WritingToA => Direction::BToA,
-        Marker::WritingToB => Direction::AToB,
-        Marker::Corrupted => Direction::AToB,
-        Marker::Foreign => Direction::AToB,
-    }
-}
-
-// The cleanup of the lowest unit from `from` on whose marker isn't OK, or Ready.
-pub fn cleanup_from(plan: Plan, image: &[u8], from: u16) -> Phase
-    requires { ⌜ PlanOk plan × (total plan ≤ length (now image)) ⌝ }
-    ensures { λ r. ⌜ r ≡ cleanupFrom plan (now (image .entry)) from ⌝ }
-{
-    let count = plan.count;
-    let mut unit = from;
-    let mut at = base_of(plan, from);
-    while unit < count {
-        let marker = image[at];
-        if marker != Marker::OK {
-            let direction = direction_of(marker);
-            return Phase::Recovering {
-                unit: unit,
-                made: 0,
-                direction: direction,
-            };
-        }
-        at = at + unit_length(plan, unit);
-        unit = unit + 1;
-    }
-    Phase::Ready
-}
-
-// Whether any unit's marker is foreign, so that the memory is another product's.
-pub fn any_foreign(plan: Plan, image: &[u8]) -> bool
-    requires { ⌜ PlanOk plan × (total plan ≤ length (now image)) ⌝ }
-    ensures { λ r. ⌜ r ≡ anyForeign (λ u. get plan (now (image .entry)) u marker) (plan .count) ⌝ }
-{
-    let mut units = plan.count;
-    while 0 < units {
-        units = units - 1;
-        let marker = Marker::classify(image[base_of(plan, units)]);
-        if marker.is_foreign() {
-            return true;
-        }
-    }
-    false
-}
-
-// Zeros in all of a span.
-fn clear(span: &mut [u8])
-    ensures { λ _. ⌜ now (span .exit) ≡ replicate (length (now (span .entry))) 0 ⌝ }
-{
-    let mut i: usize = 0;
-    while i < span.len() {
-        span[i] = 0;
-        i = i + 1;
-    }
-}
-
-// A unit as format leaves it: marker OK, and zeros.
-fn format_unit(span: &mut [u8])
-    requires { ⌜ 0 < length (now span) ⌝ }
-    ensures { λ _. ⌜ now (span .exit) ≡ OK ∷ replicate (length (now (span .entry)) - 1) 0 ⌝ }
-{
-    clear(&mut span[..]);
-    span[0] = Marker::OK;
-}
-
-// All units, one after the other; what lies after them is left be.
-pub fn format_units(plan: Plan, image: &mut [u8])
-    requires { ⌜ PlanOk plan × (total plan ≤ length (now image)) ⌝ }
-    ensures { λ _. ⌜ now (image .exit) ≡ formatted plan (now (image .entry)) ⌝ }
-{
-    let count = plan.count;
-    let mut unit: u16 = 0;
-    let mut base: usize = 0;
-    while unit < count {
-        let end = base + unit_length(plan, unit);
-        format_unit(&mut image[base..end]);
-        base = end;
-        unit = unit + 1;
     }
 }

@@ -16,7 +16,7 @@ use Rattle.model.proofs.RefusalLaws.{first-skip, first-behind, first-front, fir
 use Rattle.model.proofs.LayoutLaws.{base-bound}
 use Rattle.layout.specs.Seen.{seen, Live}
 use Rattle.layout.proofs.Laws.{room}
-use Rattle.mirror.proofs.Search.{marker-at}
+use Rattle.search.proofs.Search.{marker-at}
 
 -- ---- begin's row and read's row are one: at the unit's own width 7 does not hold
 pub read-row : (v : View) (u size : ℕ) → size ≡ width (v .plan) u → beginNumber v u size ≡ readNumber v u

@@ -9,7 +9,6 @@ ghost use Rattle.layout.specs.Seen.{seen};
 use layout::base_of;
 use layout::device_number;
 use layout::width_of;
-use mirror::any_foreign;
 use model::Marker;
 use model::Phase;
 use model::Plan;
@@ -18,6 +17,7 @@ use model::refusals::FOREIGN_MARKER;
 use model::refusals::NO_UNIT;
 use model::refusals::WRONG_PHASE;
 use model::refusals::WRONG_SIZE;
+use search::any_foreign;
 
 // Wrong phase for format and wake.
 fn not_cold(phase: Phase) -> bool

@@ -22,7 +22,7 @@ use Rattle.layout.specs.declared.Span.{Span}
 use Rattle.layout.specs.Spans.{spanOf, Spans, Sound}
 use Rattle.layout.proofs.Laws.{room, span-sound, span-inside, looked-up}
 use Rattle.refusal.proofs.Laws.{live}
-use Rattle.mirror.proofs.Search.{cleaned, search-names}
+use Rattle.search.proofs.Search.{cleaned, search-names}
 
 -- ---- k is the code's number, n the definition's
 pub refused : (d : Device) (image : List ℕ) (k n : ℕ) (o : Outcome) → k ≡ n → ¬ (k ≡ 0)

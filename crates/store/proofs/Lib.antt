@@ -1,4 +1,3 @@
 pub mod Laws
-pub mod Padding
 pub mod Going
 pub mod InARow

@@ -2,21 +2,20 @@
 // refusal of document 01 that applies, and the next device. A refused call gives the device back as it came and changes no byte.
 // Every contract is an equation with the definitions of crates/model/specs/Calls.antt.
 ghost use mathlib.Core.Path.{_≡_};
-ghost use Prim.Native.Nat.{_≤_};
 ghost use lib.ListN.{length};
 ghost use Rattle.model.specs.Refusals.{readNumber};
-ghost use Rattle.model.specs.Calls.{view, padded, outcome, start, format, begin, step, wake, cut, read, inspect};
+ghost use Rattle.model.specs.Calls.{view, outcome, start, format, begin, step, wake, cut, read, inspect};
 ghost use Rattle.advance.specs.Advances.{parts};
 ghost use Rattle.store.specs.Modelled.{modelled, blanked, Gives, Starts};
 ghost use Rattle.store.specs.Steps.{steps};
 use advance::Advanced;
 use advance::advance;
+use format::format_units;
+use format::zero_filled;
 use layout::device_number;
 use layout::plan_number;
 use layout::span_of;
 use mirror::End;
-use mirror::cleanup_from;
-use mirror::format_units;
 use mirror::store_on;
 use model::Inspection;
 use model::Phase;
@@ -25,6 +24,7 @@ use refusal::begin_number;
 use refusal::format_number;
 use refusal::read_number;
 use refusal::wake_number;
+use search::cleanup_from;
 
 // `stores` counts the completed stores, for the memory chip's rating.
 pub struct Device {
@@ -38,20 +38,6 @@ pub struct Device {
 pub struct Answer {
     pub device: Device,
     pub number: u16,
-}
-
-// A payload as the device holds it: zeros after it.
-fn zero_filled(payload: &[u8]) -> [u8; 256]
-    requires { ⌜ length (now payload) ≤ 256 ⌝ }
-    ensures { λ r. ⌜ r ≡ padded (now (payload .entry)) ⌝ }
-{
-    let mut held = [0u8; 256];
-    let mut i: usize = 0;
-    while i < payload.len() {
-        held[i] = payload[i];
-        i = i + 1;
-    }
-    held
 }
 
 // A device with a zero payload.

@@ -17,14 +17,11 @@ returns c = let a = c .before .before .before .before .args in
     picked-more _ _ _ _ _ _ _ (omega (arith, c .before .before .before .before .pre .0))
     (λ p u e. record { cell = marker; is = write-A p (now (a .payload)) u (a .made) _ (span-width p u _ e) (c .before .if2 .taken); at = refl }) (omega (arith, c .before .if2 .taken)) (c .pick .ensures)
 
-sub-pick : tie.Need-sub-pick
-sub-pick c = search needs
+sub-i : tie.Need-sub-i
+sub-i c = search needs
 
 add-pick : tie.Need-add-pick
 add-pick c = search needs
-
-sub-pick-2 : tie.Need-sub-pick-2
-sub-pick-2 c = search needs
 
 cast-pick : tie.Need-cast-pick
 cast-pick c = search needs
@@ -59,20 +56,14 @@ returns-3 c = let a = c .before .before .before .before .before .args in
     (λ p u e. record { cell = marker; is = write-B p (now (a .payload)) u (a .made) _ (span-width p u _ e) (omega (arith, c .before .if4 .taken)); at = refl })
     (omega (arith, c .before .before .if3 .taken)) (c .pick3 .ensures)
 
+add-j : tie.Need-add-j
+add-j c = search needs
+
+sub-j : tie.Need-sub-j
+sub-j c = search needs
+
 add-pick-2 : tie.Need-add-pick-2
 add-pick-2 c = search needs
-
-sub-pick-3 : tie.Need-sub-pick-3
-sub-pick-3 c = search needs
-
-add-pick-3 : tie.Need-add-pick-3
-add-pick-3 c = search needs
-
-add-pick-4 : tie.Need-add-pick-4
-add-pick-4 c = search needs
-
-sub-pick-4 : tie.Need-sub-pick-4
-sub-pick-4 c = search needs
 
 cast-pick-2 : tie.Need-cast-pick-2
 cast-pick-2 c = search needs
@@ -116,9 +107,8 @@ write-choice-spec =
     (tie.spec
     pick-requires
     returns
-    sub-pick
+    sub-i
     add-pick
-    sub-pick-2
     cast-pick
     shared-slice-read-pick
     pick-requires-2
@@ -128,11 +118,9 @@ write-choice-spec =
     add-if4
     pick-requires-3
     returns-3
+    add-j
+    sub-j
     add-pick-2
-    sub-pick-3
-    add-pick-3
-    add-pick-4
-    sub-pick-4
     cast-pick-2
     shared-slice-read-pick-2
     pick-requires-4

@@ -1,4 +1,4 @@
--- `store::zero_filled` meets its contract. The loop's invariant: i bytes of the payload, and zeros.
+-- `format::zero_filled` meets its contract. The loop's invariant: i bytes of the payload, and zeros.
 use borrow.Author.Needs.{needs}
 use native.Mathlib.Omega.{arith}
 use mathlib.Core.Path.{_≡_, refl, ap, _∙_}
@@ -7,9 +7,9 @@ use Prim.Native.Nat.{ℕ, _-_, _≤_}
 use lib.ListN.{length, take, replicate, set, getD}
 use lib.Seq.{take-all}
 use denote.Ref.{now}
-use Rattle.store.proofs.Padding.{pad-more}
-use Rattle.store.proofs.zero_filled.Statement.{statement}
-use Rattle.store.proofs.zero_filled.Tie as tie
+use Rattle.format.proofs.Padding.{pad-more}
+use Rattle.format.proofs.zero_filled.Statement.{statement}
+use Rattle.format.proofs.zero_filled.Tie as tie
 
 abbrev Inv-loop : tie.InvT-loop
 Inv-loop payload held₀ i₀ held i = (i ≤ length payload) × (held ≡ take i payload ++ replicate (256 - i) 0)

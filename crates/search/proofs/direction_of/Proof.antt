@@ -1,9 +1,9 @@
--- `mirror::direction_of` meets its contract, by the marker's meaning.
+-- `search::direction_of` meets its contract, by the marker's meaning.
 use mathlib.Core.Path.{sym, ap, _∙_}
 use borrow.Author.Needs.{needs}
 use Rattle.model.specs.Marker.{way, direction}
-use Rattle.mirror.proofs.direction_of.Statement.{statement}
-use Rattle.mirror.proofs.direction_of.Tie as tie
+use Rattle.search.proofs.direction_of.Statement.{statement}
+use Rattle.search.proofs.direction_of.Tie as tie
 
 classify-requires : tie.Need-classify-requires
 classify-requires c κs = search needs

@@ -1,4 +1,4 @@
--- `mirror::clear` meets its contract. The loop's invariant: the first i bytes are zeros.
+-- `format::clear` meets its contract. The loop's invariant: the first i bytes are zeros.
 use borrow.Author.Needs.{needs}
 use native.Mathlib.Omega.{arith}
 use lib.ListN.{length-set, length, take, replicate}
@@ -6,9 +6,9 @@ use lib.Seq.{take-all}
 use denote.Ref.{now}
 use Prim.Native.Nat.{ℕ, _≤_, _-_}
 use mathlib.Core.Path.{_≡_, refl, sym, ap, _∙_}
-use Rattle.mirror.proofs.Format.{zero-more}
-use Rattle.mirror.proofs.clear.Statement.{statement}
-use Rattle.mirror.proofs.clear.Tie as tie
+use Rattle.format.proofs.Format.{zero-more}
+use Rattle.format.proofs.clear.Statement.{statement}
+use Rattle.format.proofs.clear.Tie as tie
 
 abbrev Inv-loop : tie.InvT-loop
 Inv-loop span₀ i₀ span i = (length span ≡ length span₀) × (i ≤ length span) × (take i span ≡ replicate i 0)

@@ -1,4 +1,4 @@
--- `mirror::any_foreign` meets its contract. The loop's invariant: the units that are left give the answer.
+-- `search::any_foreign` meets its contract. The loop's invariant: the units that are left give the answer.
 use borrow.Author.Needs.{needs}
 use native.Mathlib.Omega.{arith}
 use denote.Ref.{now}
@@ -9,9 +9,9 @@ use Rattle.model.specs.Marker.{isForeign}
 use Rattle.model.specs.Refusals.{anyForeign}
 use Rattle.model.proofs.RefusalLaws.{count-bounds}
 use Rattle.model.proofs.LayoutLaws.{unit-some, base-bound}
-use Rattle.mirror.proofs.Search.{foreign-found, foreign-passed, foreign-none}
-use Rattle.mirror.proofs.any_foreign.Statement.{statement}
-use Rattle.mirror.proofs.any_foreign.Tie as tie
+use Rattle.search.proofs.Search.{foreign-found, foreign-passed, foreign-none}
+use Rattle.search.proofs.any_foreign.Statement.{statement}
+use Rattle.search.proofs.any_foreign.Tie as tie
 
 abbrev Inv-loop : tie.InvT-loop
 Inv-loop plan image units₀ units =

@@ -1,4 +1,4 @@
--- `mirror::format_unit` meets its contract.
+-- `format::format_unit` meets its contract.
 use mathlib.Core.Path.{_∙_, ap}
 use mathlib.Core.List.{List}
 use Prim.Native.Nat.{ℕ}
@@ -6,9 +6,9 @@ use lib.ListN.{set, length}
 use denote.Ref.{now}
 use borrow.Author.Needs.{needs}
 use Rattle.model.specs.Marker.{OK}
-use Rattle.mirror.proofs.Format.{marker-first}
-use Rattle.mirror.proofs.format_unit.Statement.{statement}
-use Rattle.mirror.proofs.format_unit.Tie as tie
+use Rattle.format.proofs.Format.{marker-first}
+use Rattle.format.proofs.format_unit.Statement.{statement}
+use Rattle.format.proofs.format_unit.Tie as tie
 
 clear-requires : tie.Need-clear-requires
 clear-requires c κs = search needs

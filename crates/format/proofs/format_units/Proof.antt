@@ -1,4 +1,4 @@
--- `mirror::format_units` meets its contract. The loop's invariant: the units so far are fresh, the rest is as it was.
+-- `format::format_units` meets its contract. The loop's invariant: the units so far are fresh, the rest is as it was.
 use borrow.Author.Needs.{needs}
 use native.Mathlib.Omega.{arith}
 use denote.Ref.{now}
@@ -8,11 +8,11 @@ use mathlib.Core.List.{_++_}
 use lib.ListN.{length, drop, length-take, length-drop}
 use Rattle.model.proofs.LayoutLaws.{unit-some, base-bound}
 use Rattle.layout.proofs.Laws.{base-more, base-none}
-use Rattle.mirror.proofs.Format.{fresh-more}
+use Rattle.format.proofs.Format.{fresh-more}
 use Rattle.model.specs.Layout.{fresh, formatted}
 use Rattle.model.specs.Layout as layout
-use Rattle.mirror.proofs.format_units.Statement.{statement}
-use Rattle.mirror.proofs.format_units.Tie as tie
+use Rattle.format.proofs.format_units.Statement.{statement}
+use Rattle.format.proofs.format_units.Tie as tie
 
 abbrev Inv-loop : tie.InvT-loop
 Inv-loop plan image₀ count unit₀ base₀ image unit base = (unit ≤ count) × (base ≡ layout.base plan unit) × (length image ≡ length image₀) × (image ≡ fresh plan unit ++ drop base image₀)

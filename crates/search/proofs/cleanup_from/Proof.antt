@@ -1,4 +1,4 @@
--- `mirror::cleanup_from` meets its contract. The loop's invariant: the search from here on gives the answer.
+-- `search::cleanup_from` meets its contract. The loop's invariant: the search from here on gives the answer.
 use borrow.Author.Needs.{needs}
 use native.Mathlib.Omega.{arith}
 use denote.Ref.{now}
@@ -7,11 +7,11 @@ use mathlib.Core.Path.{_≡_, refl, sym, ap, _∙_}
 use Rattle.model.specs.declared.Phase.the-variants.{Recovering}
 use Rattle.model.proofs.LayoutLaws.{unit-some, base-bound}
 use Rattle.layout.proofs.Laws.{base-more}
-use Rattle.mirror.proofs.Search.{search-skip, search-stop, search-end}
+use Rattle.search.proofs.Search.{search-skip, search-stop, search-end}
 use Rattle.model.specs.Layout.{base}
 use Rattle.model.specs.Calls.{cleanupFrom}
-use Rattle.mirror.proofs.cleanup_from.Statement.{statement}
-use Rattle.mirror.proofs.cleanup_from.Tie as tie
+use Rattle.search.proofs.cleanup_from.Statement.{statement}
+use Rattle.search.proofs.cleanup_from.Tie as tie
 
 abbrev Inv-loop : tie.InvT-loop
 Inv-loop plan image from count unit₀ at₀ unit at = (at ≡ base plan unit) × (cleanupFrom plan image unit ≡ cleanupFrom plan image from)
