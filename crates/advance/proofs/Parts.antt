@@ -20,7 +20,6 @@ use Rattle.model.specs.Calls.{outcome, jobOf, viewOf, counted, next, imageAfter
 use Rattle.model.proofs.RefusalLaws.{first-skip, first-stop, first-none, first-refused, first-passed, first-front, false-or, PlanOk, width-bounds, count-bounds}
 use Rattle.model.proofs.LayoutLaws.{length-stored}
 use Rattle.model.proofs.StoreLaws.{write-goes-on, write-ends, cleanup-goes-on, cleanup-ends}
-use Rattle.layout.specs.Seen.{seen}
 use Rattle.layout.proofs.Laws.{Room, room}
 use Rattle.mirror.specs.Ends.{Stores, Ends, WriteEnds}
 use Rattle.mirror.specs.declared.Ended.{Ended}
@@ -40,7 +39,7 @@ module _ (p : Plan) (payload : List ℕ) (phase : Phase) (earlier : ℕ) (image 
 
   -- Cold and Ready
   pub idle-refused : idle ≡ true → (r : Advanced)
-      → r ≡ record { number = stepNumber (seen p phase (length image)); phase = phase; stores = earlier }
+      → r ≡ record { number = stepNumber (viewOf p phase image); phase = phase; stores = earlier }
       → Advances p payload phase earlier image image r
   unfolding stepNumber
   idle-refused e r is =

@@ -3,8 +3,7 @@ ghost use mathlib.Core.Path.{_≡_};
 ghost use lib.ListN.{length};
 ghost use Rattle.model.specs.declared.Phase.the-variants.{Writing, Recovering};
 ghost use Rattle.model.specs.Refusals.{stepNumber};
-ghost use Rattle.model.specs.Calls.{counted};
-ghost use Rattle.layout.specs.Seen.{seen};
+ghost use Rattle.model.specs.Calls.{viewOf, counted};
 ghost use Rattle.advance.specs.Advances.{Advances, AdvancesAll};
 use mirror::End;
 use mirror::clean_on;
@@ -36,10 +35,10 @@ pub struct Advanced {
 }
 
 // A step where there is no store to make: refused, with 1 to 3 or 5.
-fn advance_idle(plan: Plan, phase: Phase, earlier: u32, length: usize) -> Advanced
-    ensures { λ r. ⌜ r ≡ record { number = stepNumber (seen plan phase length); phase = phase; stores = earlier } ⌝ }
+fn advance_idle(plan: Plan, phase: Phase, earlier: u32, image: &[u8]) -> Advanced
+    ensures { λ r. ⌜ r ≡ record { number = stepNumber (viewOf plan phase (now (image .entry))); phase = phase; stores = earlier } ⌝ }
 {
-    let number = step_number(plan, phase, length);
+    let number = step_number(plan, phase, image);
     Advanced {
         number: number,
         phase: phase,
@@ -142,8 +141,8 @@ pub fn advance(plan: Plan, payload: &[u8], phase: Phase, before: u32, image: &mu
     ensures { λ r. ⌜ Advances plan (now (payload .entry)) phase before (now (image .entry)) (now (image .exit)) r ⌝ }
 {
     match phase {
-        Phase::Cold => advance_idle(plan, phase, before, image.len()),
-        Phase::Ready => advance_idle(plan, phase, before, image.len()),
+        Phase::Cold => advance_idle(plan, phase, before, &image[..]),
+        Phase::Ready => advance_idle(plan, phase, before, &image[..]),
         Phase::Writing { unit, made } => advance_writing(
             plan,
             payload,

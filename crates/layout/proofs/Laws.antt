@@ -11,15 +11,14 @@ use borrow.Author.Tests.{lt-ltb, le-ltb, eq-eqb, ne-eqb, le-leb, lt-leb, ltb-fal
 use Rattle.model.specs.declared.Plan.{Plan}
 use Rattle.model.specs.declared.Phase.{Phase}
 use Rattle.model.specs.Layout.{width, base, total, unitLength}
-use Rattle.model.specs.Calls.{jobOf}
-use Rattle.model.specs.Refusals.{SHORT-IMAGE, BAD-JOB, badCount, badWidths, badJob, _when_, first, deviceRow, startNumber}
+use Rattle.model.specs.Calls.{jobOf, viewOf}
+use Rattle.model.specs.Refusals.{SHORT-IMAGE, BAD-JOB, badCount, badWidths, badJob, _when_, first, startNumber}
 use Rattle.model.proofs.Compare.{below, above, order, equal, differ, same}
 use Rattle.model.proofs.LayoutLaws.{base-bound}
 use Rattle.model.proofs.RefusalLaws.{first-skip, first-stop, first-none, first-refused, plan-passed, PlanOk, past, start-says, count-bounds, width-bounds}
 use Rattle.layout.specs.declared.Measured.{Measured}
 use Rattle.layout.specs.declared.Span.{Span}
-use Rattle.layout.specs.Spans.{Measures, spanOf, jobRow, Spans, Sound}
-use Rattle.layout.specs.Seen.{seen, Live}
+use Rattle.layout.specs.Spans.{imageRow, Live, Measures, spanOf, jobRow, Spans, Sound}
 
 or-true : (x y : Bool) → y ≡ true → x || y ≡ true
 or-true true y e = refl
@@ -100,7 +99,7 @@ module _ (p : Plan) where
 
 -- where plan and image are fine, refusal 4 is left
 pub before-job : (p : Plan) (phase : Phase) (length n b : ℕ) → n ≡ startNumber p → n ≡ 0 → b ≡ total p → b ≤ length
-    → first (deviceRow (seen p phase length)) ≡ first (4 when badJob p (jobOf phase) ∷ [])
+    → first (imageRow p phase length) ≡ first (4 when badJob p (jobOf phase) ∷ [])
 before-job p phase length n b e z t l =
     plan-passed p _ (sym e ∙ z) ∙ first-skip 3 _ _ (le-ltb length (total p) (rw t at l))
 
@@ -177,5 +176,5 @@ pub record Room (p : Plan) (phase : Phase) (image : List ℕ) : Type 0 where
 
 pub room : (p : Plan) (phase : Phase) (image : List ℕ) → Live p phase image → Room p phase image
 room p phase image e =
-    let h = past (seen p phase (length image)) [] e in
+    let h = past (viewOf p phase image) [] e in
     record { ok = h .plan; long = ltb-false (length image) (total p) (h .long); job = h .job }

@@ -1,14 +1,17 @@
 -- A plan measured, and a unit of it looked up: what refusals 1 to 4 leave to be asked of it.
 use Prim.Native.Nat.{ℕ, _+_, _<_, _≤_}
 use mathlib.Core.Path.{_≡_}
-use mathlib.Core.List.{[], _∷_, _++_}
+use mathlib.Core.List.{List, [], _∷_, _++_}
 use mathlib.Core.Bool.{Bool, _||_}
 use lib.Dec.{ltb, leb}
+use lib.ListN.{length}
 use Rattle.layout.specs.declared.Measured.{Measured}
 use Rattle.layout.specs.declared.Span.{Span}
+use Rattle.model.specs.declared.Phase.{Phase}
 use Rattle.model.specs.declared.Plan.{Plan}
 use Rattle.model.specs.Layout.{copyA, copyB, byte, width, unitLength, offset, base, total}
-use Rattle.model.specs.Refusals.{SHORT-IMAGE, BAD-JOB, _when_, first, planRow, startNumber}
+use Rattle.model.specs.Refusals.{SHORT-IMAGE, BAD-JOB, Refusal, _when_, first, planRow, firstFour, startNumber}
+use Rattle.model.specs.Calls.{jobOf}
 use Rattle.model.proofs.RefusalLaws.{PlanOk}
 
 pub record Measures (p : Plan) (u : ℕ) (r : Measured) : Type 0 where
@@ -28,14 +31,22 @@ spanOf p u =
       number = 0;
     }
 
+-- refusals 1 to 4, for an image of n bytes
+abbrev pub imageRow : Plan → Phase → ℕ → List Refusal
+imageRow p phase n = firstFour p (ltb n (total p)) (jobOf phase)
+
+-- they do not apply
+abbrev pub Live : Plan → Phase → List ℕ → Type 0
+Live p phase image = first (imageRow p phase (length image)) ≡ 0
+
 -- the row of a job at unit u; `late` is what refusal 4 says of its stores
 abbrev pub jobRow : Plan → ℕ → ℕ → Bool → ℕ
-jobRow p u length late = first (planRow p ++ (SHORT-IMAGE when ltb length (total p) ∷ BAD-JOB when (leb (p .count) u || late) ∷ []))
+jobRow p u n late = first (planRow p ++ (SHORT-IMAGE when ltb n (total p) ∷ BAD-JOB when (leb (p .count) u || late) ∷ []))
 
-pub record Spans (p : Plan) (u length : ℕ) (r : Span) : Type 0 where
-  pub refused : ¬ (r .number ≡ 0) → (late : Bool) → r .number ≡ jobRow p u length late
+pub record Spans (p : Plan) (u n : ℕ) (r : Span) : Type 0 where
+  pub refused : ¬ (r .number ≡ 0) → (late : Bool) → r .number ≡ jobRow p u n late
   pub plan : r .number ≡ 0 → PlanOk p
-  pub long : r .number ≡ 0 → total p ≤ length
+  pub long : r .number ≡ 0 → total p ≤ n
   pub unit : r .number ≡ 0 → u < p .count
   pub is : r .number ≡ 0 → r ≡ spanOf p u
 

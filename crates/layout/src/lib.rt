@@ -6,9 +6,8 @@ ghost use mathlib.Core.List.{[], _∷_};
 ghost use Prim.Native.Nat.{_+_, _*_, _≤_};
 ghost use lib.Dec.{leb};
 ghost use Rattle.model.specs.Layout.{unitLength, base, width};
-ghost use Rattle.model.specs.Refusals.{_when_, first, startNumber, deviceRow};
-ghost use Rattle.layout.specs.Seen.{seen};
-ghost use Rattle.layout.specs.Spans.{Measures, Spans};
+ghost use Rattle.model.specs.Refusals.{_when_, first, startNumber};
+ghost use Rattle.layout.specs.Spans.{imageRow, Measures, Spans};
 use model::Phase;
 use model::Plan;
 use model::refusals::BAD_COUNT;
@@ -180,7 +179,7 @@ fn job_number(plan: Plan, unit: u16, made: u16, total: u32) -> u16
 
 // 0, or the lowest of the refusals 1 to 4, for an image of `length` bytes.
 pub fn device_number(plan: Plan, phase: Phase, length: usize) -> u16
-    ensures { λ r. ⌜ r ≡ first (deviceRow (seen plan phase length)) ⌝ }
+    ensures { λ r. ⌜ r ≡ first (imageRow plan phase length) ⌝ }
 {
     let whole = measure(plan, 0);
     let number = whole.number;

@@ -8,17 +8,17 @@ use native.Mathlib.Omega.{arith}
 use lib.Dec.{eqb, ltb, leb}
 use lib.ListN.{length, getD, replicate, length-set, length-append, length-replicate, List·getD-append}
 use lib.Seq.{getD-set-same, getD-set-other, getD-drop, getD-append-add}
-use borrow.Author.Tests.{eq-eqb, ne-eqb, lt-ltb, le-ltb, leb-false, ltb-false}
+use borrow.Author.Tests.{ne-eqb, lt-ltb, le-ltb, leb-false, ltb-false}
 use Rattle.model.specs.declared.Plan.{Plan}
 use Rattle.model.specs.declared.Direction.{Direction}
 use Rattle.model.specs.declared.Direction.the-variants.{AToB, BToA}
 use Rattle.model.specs.declared.Phase.{Phase}
 use Rattle.model.specs.declared.Phase.the-variants.{Cold, Ready, Writing, Recovering}
-use Rattle.model.specs.Marker.{OK, A, direction, completed, tornBy, tornBits, torn}
+use Rattle.model.specs.Marker.{A, direction, completed, tornBy, tornBits, torn}
 use Rattle.model.specs.Layout.{copyA, copyB, Cell, marker, byte, InUnit, width, base, total, place, get, put, copyOf, formatted}
 use Rattle.model.specs.Refusals.{writeTotal, cleanupTotal, badJob, isCold, isReady, first, startNumber, formatNumber, beginNumber, stepNumber, wakeNumber, cutNumber, readNumber, inspectNumber}
 use Rattle.model.specs.Stores.{Store, store, source, target, tornCell, stored}
-use Rattle.model.specs.Calls.{Device, Outcome, outcome, view, unlessRefused, startAnswer, jobOf, next, imageAfter, phaseAfter, cleanupAmong, cleanupFrom, lowestBad, inspection, counted, mostStores, padded, asFormatted, asBegun, asStepped, asWoken, asCut, partUnlessRefused}
+use Rattle.model.specs.Calls.{Device, Outcome, outcome, view, unlessRefused, startAnswer, jobOf, next, imageAfter, phaseAfter, cleanupOf, cleanupFrom, lowestBad, inspection, counted, mostStores, padded, asFormatted, asBegun, asStepped, asWoken, asCut, partUnlessRefused}
 use Rattle.model.specs.Calls as calls
 use Rattle.model.specs.Drive.{driveNumber, drive, driveUnlessRefused}
 use Rattle.model.specs.Demands.{Lies, at, Does, Starts, OneByte, Formats, Begins, WriteStore, markerA, toA, markerB, toB, markerOK, CleanupStore, NextStore, ofWrite, ofCleanup, Way, fromA, fromB, Cleans, PhaseAfter, writing, written, cleaning, cleaned, Counts, more, most, Steps, Wakes, bit, Torn, data-byte, mixed, Tears, CutImage, Cuts, Reads, Inspects, EveryCall, Drives, EveryDrive}
@@ -28,7 +28,7 @@ use Rattle.model.proofs.MarkerLaws.{direction-A, direction-other, bits-
 use Rattle.model.proofs.RefusalLaws.{first-past, first-skip, first-stop, first-none, or-false, false-or, PlanOk, Past, past, format-says, begin-says, width-bounds}
 use Rattle.model.proofs.LayoutLaws.{place-bound, copy-length, copy-byte, get-formatted, length-formatted, rest-formatted}
 use Rattle.model.proofs.StoreLaws.{next-A, next-to-A, next-B, next-to-B, next-OK, next-copy, next-settle, write-goes-on, write-ends, cleanup-goes-on, cleanup-ends}
-use Rattle.model.proofs.InspectLaws.{Names, names-lowest}
+use Rattle.model.proofs.InspectLaws.{Lowest, lowest-among, Names, names-lowest}
 
 -- ---- Refused and accepted.
 does : (P : Outcome → Type 0) (n : ℕ) (d : Device) (image : List ℕ) (o : Outcome) → o .number ≡ 0 → (n ≡ 0 → P o)
@@ -231,20 +231,13 @@ way-of m =
       | differ h ↦ rw (direction-other m h) (fromA h)
     ]
 
-cleans-from : (p : Plan) (image : List ℕ) (n u : ℕ) → u + n ≡ p .count → Cleans p image u (cleanupAmong p image n u)
-unfolding cleanupAmong get
-cleans-from p image zero u e = demands.Cleans.none (λ v l h. absurd (omega arith))
-cleans-from p image (suc n) u e =
-    elim (same (get p image u marker) OK) [
-      | equal g ↦ rw (eq-eqb (get p image u marker) OK g) (wider g (cleans-from p image n (suc u) (omega arith)))
-      | differ h ↦ rw (ne-eqb (get p image u marker) OK h)
-          (demands.Cleans.lowest u _ (omega arith) (omega arith) h (λ v l k. absurd (omega arith)) (way-of (get p image u marker)))
-    ]
+cleans-from : (p : Plan) (image : List ℕ) (n u : ℕ) → u + n ≡ p .count → Cleans p image u (cleanupOf p image (lowestBad p image n u))
+unfolding get
+cleans-from p image n u e = go (lowestBad p image n u) (lowest-among p image n u)
   where
-    wider : {next : Phase} → get p image u marker ≡ OK → Cleans p image (suc u) next → Cleans p image u next
-    wider g (demands.Cleans.none h) = demands.Cleans.none (λ v l k. elim (same v u) [ equal q ↦ rw q g | differ q ↦ h v (omega arith) k ])
-    wider g (demands.Cleans.lowest t way l k bad h m) =
-        demands.Cleans.lowest t way (omega arith) k bad (λ v i j. elim (same v u) [ equal q ↦ rw q g | differ q ↦ h v (omega arith) j ]) m
+    go : (found : Option ℕ) → Lowest p image u n found → Cleans p image u (cleanupOf p image found)
+    go none h = demands.Cleans.none (λ v l k. h v l (omega arith))
+    go (some t) h = demands.Cleans.lowest t _ (h .0) (omega (arith, h .1)) (h .2) (h .3) (way-of (get p image t marker))
 
 -- ---- Step.
 phase-after : (p : Plan) (image′ : List ℕ) (phase : Phase) → badJob p (jobOf phase) ≡ false

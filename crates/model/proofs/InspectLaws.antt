@@ -18,15 +18,15 @@ module _ (p : Plan) (image : List ℕ) where
   -- of the n units from u on
   abbrev pub Lowest : ℕ → ℕ → Option ℕ → Type 0
   Lowest u n none = (v : ℕ) → u ≤ v → v < u + n → Good v
-  Lowest u n (some t) = (t < u + n) × ¬ Good t × ((v : ℕ) → u ≤ v → v < t → Good v)
+  Lowest u n (some t) = (u ≤ t) × (t < u + n) × ¬ Good t × ((v : ℕ) → u ≤ v → v < t → Good v)
 
   wider : (u n : ℕ) (found : Option ℕ) → Good u → Lowest (suc u) n found → Lowest u (suc n) found
   wider u n none e t = λ v l h. elim (same v u) [ equal q ↦ rw q e | differ q ↦ t v (omega arith) (omega arith) ]
   wider u n (some w) e t =
-      (omega arith, t .1, λ v l h. elim (same v u) [ equal q ↦ rw q e | differ q ↦ t .2 v (omega arith) (omega arith) ])
+      (omega arith, omega arith, t .2, λ v l h. elim (same v u) [ equal q ↦ rw q e | differ q ↦ t .3 v (omega arith) (omega arith) ])
 
   here : (u n : ℕ) → ¬ Good u → Lowest u (suc n) (some u)
-  here u n h = (omega arith, h, λ v l m. absurd (omega arith))
+  here u n h = (omega arith, omega arith, h, λ v l m. absurd (omega arith))
 
   pub lowest-among : (n u : ℕ) → Lowest u n (lowestBad p image n u)
   unfolding lowestBad
@@ -47,4 +47,4 @@ module _ (p : Plan) (image : List ℕ) where
     where
       whole : (found : Option ℕ) → Lowest 0 (p .count) found → Names found
       whole none t = λ v h. t v (omega arith) (omega arith)
-      whole (some u) t = (omega arith, t .1, λ v h. t .2 v (omega arith) h)
+      whole (some u) t = (omega arith, t .2, λ v h. t .3 v (omega arith) h)

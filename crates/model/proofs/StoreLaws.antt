@@ -2,7 +2,7 @@
 use Prim.Native.Nat.{ℕ, zero, suc, _+_, _-_, _≤_, _<_}
 use mathlib.Core.Path.{_≡_, refl, ap, _∙_}
 use mathlib.Core.List.{List, _++_}
-use mathlib.Core.Option.{some}
+use mathlib.Core.Option.{none, some}
 use mathlib.Core.Bool.{true, false}
 use lib.Dec.{eqb}
 use native.Mathlib.Omega.{arith}
@@ -15,7 +15,7 @@ use Rattle.model.specs.Marker.{OK, A, B, direction}
 use Rattle.model.specs.Layout.{Copy, copyA, copyB, marker, byte, width, get}
 use Rattle.model.specs.Refusals.{writeTotal, cleanupTotal}
 use Rattle.model.specs.Stores.{Store, store, copying, writeStores, source, target, cleanupStores}
-use Rattle.model.specs.Calls.{next, cleanupAmong, cleanupFrom, phaseAfter}
+use Rattle.model.specs.Calls.{next, lowestBad, cleanupOf, cleanupFrom, phaseAfter}
 use Rattle.model.proofs.Compare.{below, above, order}
 use Rattle.model.proofs.Tasks.{Task, alone, phaseAt, taskWrite, follows, phased}
 
@@ -128,23 +128,32 @@ module _ (p : Plan) (payload image : List ℕ) (t : Task) (n : ℕ) where
 
 -- ---- looking for a marker that isn't OK
 module _ (p : Plan) (image : List ℕ) where
-  pub none-found : (n u : ℕ) → ((v : ℕ) → u ≤ v → v < u + n → get p image v marker ≡ OK) → cleanupAmong p image n u ≡ Ready
-  unfolding cleanupAmong
-  none-found zero u h = refl
-  none-found (suc n) u h =
-      rw (eq-eqb _ OK (h u (omega arith) (omega arith)), cleanupAmong)
-      (none-found n (suc u) (λ v l r. h v (omega arith) (omega arith)))
+  none-bad : (n u : ℕ) → ((v : ℕ) → u ≤ v → v < u + n → get p image v marker ≡ OK) → lowestBad p image n u ≡ none
+  unfolding lowestBad
+  none-bad zero u h = refl
+  none-bad (suc n) u h =
+      rw (eq-eqb _ OK (h u (omega arith) (omega arith)), lowestBad)
+      (none-bad n (suc u) (λ v l r. h v (omega arith) (omega arith)))
 
-  pub lowest-found : (n u t : ℕ) → u ≤ t → t < u + n → ((v : ℕ) → u ≤ v → v < t → get p image v marker ≡ OK)
-      → ¬ (get p image t marker ≡ OK) → cleanupAmong p image n u ≡ Recovering t 0 (direction (get p image t marker))
-  unfolding cleanupAmong
-  lowest-found zero u t l r h x = absurd (omega arith)
-  lowest-found (suc n) u t l r h x =
+  one-bad : (n u t : ℕ) → u ≤ t → t < u + n → ((v : ℕ) → u ≤ v → v < t → get p image v marker ≡ OK)
+      → ¬ (get p image t marker ≡ OK) → lowestBad p image n u ≡ some t
+  unfolding lowestBad
+  one-bad zero u t l r h x = absurd (omega arith)
+  one-bad (suc n) u t l r h x =
       elim (order u t) [
         | below q ↦
-            rw (eq-eqb (get p image u marker) OK (h u (omega arith) q), cleanupAmong)
-            (lowest-found n (suc u) t q (omega arith) (λ v i j. h v (omega arith) j) x)
+            rw (eq-eqb (get p image u marker) OK (h u (omega arith) q), lowestBad)
+            (one-bad n (suc u) t q (omega arith) (λ v i j. h v (omega arith) j) x)
         | above q ↦
             let e : u ≡ t = omega arith in
             rw (e, ne-eqb (get p image t marker) OK x)
       ]
+
+  pub none-found : (n u : ℕ) → ((v : ℕ) → u ≤ v → v < u + n → get p image v marker ≡ OK)
+      → cleanupOf p image (lowestBad p image n u) ≡ Ready
+  none-found n u h = ap (cleanupOf p image) (none-bad n u h)
+
+  pub lowest-found : (n u t : ℕ) → u ≤ t → t < u + n → ((v : ℕ) → u ≤ v → v < t → get p image v marker ≡ OK)
+      → ¬ (get p image t marker ≡ OK)
+      → cleanupOf p image (lowestBad p image n u) ≡ Recovering t 0 (direction (get p image t marker))
+  lowest-found n u t l r h x = ap (cleanupOf p image) (one-bad n u t l r h x)

@@ -13,7 +13,7 @@ use Rattle.model.specs.Edges.{EveryRefusal, EveryOutcome, EveryStart, Ev
 
 -- C1 to C12
 pub every-case : EveryCase
-unfolding meaning direction tornBits torn base get put fresh formatted badCount badWidths badJob first startNumber formatNumber wakeNumber stepNumber cutNumber anyForeign beginNumber copying writeStores cleanupStores stored calls.next calls.imageAfter calls.cleanupAmong calls.phaseAfter calls.start calls.format calls.begin calls.step calls.wake calls.cut opening markerOf told writeMarker cleanupMarker saving accepted fed tells after call run answers driveNumber drive
+unfolding meaning direction tornBits torn base get put fresh formatted badCount badWidths badJob first startNumber formatNumber wakeNumber stepNumber cutNumber anyForeign beginNumber copying writeStores cleanupStores stored calls.next calls.imageAfter calls.lowestBad calls.phaseAfter calls.start calls.format calls.begin calls.step calls.wake calls.cut opening markerOf told writeMarker cleanupMarker saving accepted fed tells after call run answers driveNumber drive
 every-case = refl
 
 pub every-refusal : EveryRefusal
@@ -21,7 +21,7 @@ unfolding meaning base get badCount badWidths badJob first startNumber formatNum
 every-refusal = refl
 
 pub every-outcome : EveryOutcome
-unfolding meaning direction tornBits torn base get put fresh formatted badCount badWidths badJob first formatNumber wakeNumber stepNumber cutNumber anyForeign beginNumber copying writeStores cleanupStores stored calls.next calls.imageAfter calls.cleanupAmong calls.phaseAfter calls.counted calls.format calls.begin calls.step calls.wake calls.cut call trace
+unfolding meaning direction tornBits torn base get put fresh formatted badCount badWidths badJob first formatNumber wakeNumber stepNumber cutNumber anyForeign beginNumber copying writeStores cleanupStores stored calls.next calls.imageAfter calls.lowestBad calls.phaseAfter calls.counted calls.format calls.begin calls.step calls.wake calls.cut call trace
 every-outcome = refl
 
 pub every-start : EveryStart
@@ -45,7 +45,7 @@ unfolding base get badCount badWidths badJob first inspectNumber calls.lowestBad
 every-inspection = refl
 
 pub every-count : EveryCount
-unfolding meaning direction tornBits torn base get put fresh formatted badCount badWidths badJob first startNumber formatNumber wakeNumber stepNumber cutNumber anyForeign beginNumber copying writeStores cleanupStores stored calls.next calls.imageAfter calls.cleanupAmong calls.phaseAfter calls.counted calls.start calls.format calls.begin calls.step calls.wake calls.cut
+unfolding meaning direction tornBits torn base get put fresh formatted badCount badWidths badJob first startNumber formatNumber wakeNumber stepNumber cutNumber anyForeign beginNumber copying writeStores cleanupStores stored calls.next calls.imageAfter calls.lowestBad calls.phaseAfter calls.counted calls.start calls.format calls.begin calls.step calls.wake calls.cut
 every-count = refl
 
 pub every-driving : EveryDriving

@@ -112,16 +112,18 @@ next p payload image (Recovering u made d) = getElem? (cleanupStores p image u d
 unfoldable pub imageAfter : End → Device → List ℕ → List ℕ
 imageAfter e d image = stored (d .plan) image e (next (d .plan) (d .payload) image (d .phase))
 
--- "Every cleanup begins with 0 made." The cleanup of the lowest of the n units from u on whose marker isn't OK, or Ready.
-unfoldable pub cleanupAmong : Plan → List ℕ → ℕ → ℕ → Phase
-cleanupAmong p image zero u = Ready
-cleanupAmong p image (suc n) u =
-    cond (eqb (get p image u marker) OK)
-    (cleanupAmong p image n (suc u))
-    (Recovering u 0 (direction (get p image u marker)))
+-- Ticket 3: "the lowest unit whose marker isn't 1": of the n units from u on, or none
+unfoldable pub lowestBad : Plan → List ℕ → ℕ → ℕ → Option ℕ
+lowestBad p image zero u = none
+lowestBad p image (suc n) u = cond (eqb (get p image u marker) OK) (lowestBad p image n (suc u)) (some u)
+
+-- "Every cleanup begins with 0 made." The cleanup of the unit found, or Ready.
+abbrev pub cleanupOf : Plan → List ℕ → Option ℕ → Phase
+cleanupOf p image none = Ready
+cleanupOf p image (some u) = Recovering u 0 (direction (get p image u marker))
 
 abbrev pub cleanupFrom : Plan → List ℕ → ℕ → Phase
-cleanupFrom p image u = cleanupAmong p image (p .count - u) u
+cleanupFrom p image u = cleanupOf p image (lowestBad p image (p .count - u) u)
 
 -- "adds 1. After a write's last store the phase is Ready. After a cleanup's last, it is the cleanup of the next higher unit
 -- whose marker isn't 1, or Ready."
@@ -183,11 +185,6 @@ read d image u = partUnlessRefused (readNumber (view d image) u) (copyOf (d .pla
 
 abbrev pub AllMarkersOk : Plan → List ℕ → Type 0
 AllMarkersOk p image = (u : ℕ) → u < p .count → get p image u marker ≡ OK
-
--- Ticket 3: "the lowest unit whose marker isn't 1": of the n units from u on, or none
-unfoldable pub lowestBad : Plan → List ℕ → ℕ → ℕ → Option ℕ
-lowestBad p image zero u = none
-lowestBad p image (suc n) u = cond (eqb (get p image u marker) OK) (lowestBad p image n (suc u)) (some u)
 
 -- The case of inspect's answer for each number of the document and each unit named; "refused, it .. names no unit".
 abbrev pub inspection : ℕ → Option ℕ → Inspection

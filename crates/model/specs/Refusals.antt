@@ -69,8 +69,11 @@ abbrev pub planRow : Plan → List Refusal
 planRow p = BAD-COUNT when badCount p ∷ BAD-WIDTH when badWidths p (p .count) ∷ []
 
 -- what every device call refuses: the plan's two, "3 image too short", and 4
+abbrev pub firstFour : Plan → Bool → Job → List Refusal
+firstFour p short j = planRow p ++ (SHORT-IMAGE when short ∷ BAD-JOB when badJob p j ∷ [])
+
 abbrev pub deviceRow : View → List Refusal
-deviceRow v = planRow (v .plan) ++ (SHORT-IMAGE when v .short ∷ BAD-JOB when badJob (v .plan) (v .job) ∷ [])
+deviceRow v = firstFour (v .plan) (v .short) (v .job)
 
 -- "5 wrong phase (format and wake outside Cold, begin and read outside Ready, step in Cold or Ready); 6 unit k or more;
 -- 7 payload length not w (begin)"; "8 that unit's marker isn't 1 (begin, read)". "Cut and inspect give 1 to 4."

@@ -14,7 +14,7 @@ use Rattle.model.specs.Layout.{marker, width, unitLength, base, get}
 use Rattle.model.specs.Refusals.{View, isReady, _when_, Refusal, first, deviceRow, readNumber, beginNumber}
 use Rattle.model.proofs.RefusalLaws.{first-skip, first-behind, first-front, first-refused, first-passed}
 use Rattle.model.proofs.LayoutLaws.{base-bound}
-use Rattle.layout.specs.Seen.{seen, Live}
+use Rattle.layout.specs.Spans.{imageRow, Live}
 use Rattle.layout.proofs.Laws.{room}
 use Rattle.search.proofs.Search.{marker-at}
 
@@ -29,28 +29,28 @@ read-row v u size e =
 -- ---- refusals 1 to 4, and 5 where the phase is wrong, for an image of n bytes; k is the code's number, t the test of the phase
 module _ (p : Plan) (phase : Phase) (n : ℕ) where
   abbrev numbered : Bool → ℕ
-  numbered wrong = first (deviceRow (seen p phase n) ++ (5 when wrong ∷ []))
+  numbered wrong = first (imageRow p phase n ++ (5 when wrong ∷ []))
 
   -- the test of the phase that the code makes is the row's
   pub phase-tested : {t : Bool} (k : ℕ) (wrong : Bool) → k ≡ numbered wrong → wrong ≡ t → k ≡ numbered t
   phase-tested k wrong e h = e ∙ ap numbered h
 
   pub phase-refused : {t : Bool} (k : ℕ) (wrong : Bool) → k ≡ numbered wrong → wrong ≡ t → ¬ (k ≡ 0)
-      → (rest : List Refusal) → k ≡ first (deviceRow (seen p phase n) ++ (5 when t ∷ rest))
+      → (rest : List Refusal) → k ≡ first (imageRow p phase n ++ (5 when t ∷ rest))
   phase-refused {t} k wrong e h z rest =
       let is : k ≡ numbered t = e ∙ ap numbered h in
-      is ∙ sym (first-refused (deviceRow (seen p phase n) ++ (5 when t ∷ [])) rest (λ q. z (is ∙ q)))
+      is ∙ sym (first-refused (imageRow p phase n ++ (5 when t ∷ [])) rest (λ q. z (is ∙ q)))
 
   pub phase-passed : {t : Bool} (k : ℕ) (wrong : Bool) → k ≡ numbered wrong → wrong ≡ t → k ≡ 0
-      → (rest : List Refusal) → first (deviceRow (seen p phase n) ++ (5 when t ∷ rest)) ≡ first rest
+      → (rest : List Refusal) → first (imageRow p phase n ++ (5 when t ∷ rest)) ≡ first rest
   phase-passed {t} k wrong e h z rest =
-      first-passed (deviceRow (seen p phase n) ++ (5 when t ∷ [])) rest refl (sym (e ∙ ap numbered h) ∙ z)
+      first-passed (imageRow p phase n ++ (5 when t ∷ [])) rest refl (sym (e ∙ ap numbered h) ∙ z)
 
 module _ (p : Plan) (phase : Phase) (image : List ℕ) where
   -- a device whose call is not refused is live
-  pub live : (k : ℕ) (rest : List Refusal) → k ≡ first (deviceRow (seen p phase (length image)) ++ rest) → k ≡ 0
+  pub live : (k : ℕ) (rest : List Refusal) → k ≡ first (imageRow p phase (length image) ++ rest) → k ≡ 0
       → Live p phase image
-  live k rest e z = first-front (deviceRow (seen p phase (length image))) rest (sym e ∙ z)
+  live k rest e z = first-front (imageRow p phase (length image)) rest (sym e ∙ z)
 
   -- 8, as the code reads the marker: b is where the unit begins
   pub marker-bad : (u b : ℕ) → b ≡ base p u → ¬ (getD image b 0 ≡ OK) → not (eqb (get p image u marker) OK) ≡ true

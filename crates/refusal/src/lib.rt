@@ -3,9 +3,9 @@
 ghost use mathlib.Core.Path.{_≡_};
 ghost use mathlib.Core.List.{[], _∷_, _++_};
 ghost use mathlib.Core.Bool.{not, _||_};
-ghost use Rattle.model.specs.Refusals.{isCold, isReady, _when_, first, deviceRow, formatNumber, wakeNumber, stepNumber, readNumber, beginNumber};
+ghost use Rattle.model.specs.Refusals.{isCold, isReady, _when_, first, formatNumber, wakeNumber, stepNumber, readNumber, beginNumber};
 ghost use Rattle.model.specs.Calls.{jobOf, viewOf};
-ghost use Rattle.layout.specs.Seen.{seen};
+ghost use Rattle.layout.specs.Spans.{imageRow};
 use layout::base_of;
 use layout::device_number;
 use layout::width_of;
@@ -67,9 +67,9 @@ fn idle(phase: Phase) -> bool
     }
 }
 
-// Refusals 1 to 5.
+// Refusals 1 to 5, for an image of `length` bytes.
 fn phase_number(plan: Plan, phase: Phase, length: usize, wrong: bool) -> u16
-    ensures { λ r. ⌜ r ≡ first (deviceRow (seen plan phase length) ++ (5 when wrong ∷ [])) ⌝ }
+    ensures { λ r. ⌜ r ≡ first (imageRow plan phase length ++ (5 when wrong ∷ [])) ⌝ }
 {
     let number = device_number(plan, phase, length);
     if number != 0 {
@@ -78,18 +78,18 @@ fn phase_number(plan: Plan, phase: Phase, length: usize, wrong: bool) -> u16
     if wrong { WRONG_PHASE } else { 0 }
 }
 
-// Refusals 1 to 5 of format, for an image of `length` bytes.
-pub fn format_number(plan: Plan, phase: Phase, length: usize) -> u16
-    ensures { λ r. ⌜ r ≡ formatNumber (seen plan phase length) ⌝ }
+// Refusals 1 to 5 of format.
+pub fn format_number(plan: Plan, phase: Phase, image: &[u8]) -> u16
+    ensures { λ r. ⌜ r ≡ formatNumber (viewOf plan phase (now (image .entry))) ⌝ }
 {
-    phase_number(plan, phase, length, not_cold(phase))
+    phase_number(plan, phase, image.len(), not_cold(phase))
 }
 
-// Refusals 1 to 5 of step, for an image of `length` bytes.
-pub fn step_number(plan: Plan, phase: Phase, length: usize) -> u16
-    ensures { λ r. ⌜ r ≡ stepNumber (seen plan phase length) ⌝ }
+// Refusals 1 to 5 of step.
+pub fn step_number(plan: Plan, phase: Phase, image: &[u8]) -> u16
+    ensures { λ r. ⌜ r ≡ stepNumber (viewOf plan phase (now (image .entry))) ⌝ }
 {
-    phase_number(plan, phase, length, idle(phase))
+    phase_number(plan, phase, image.len(), idle(phase))
 }
 
 // Refusals 1 to 8 of begin with a payload of `size` bytes. Read has no payload: it asks with the unit's own width.
@@ -124,7 +124,7 @@ pub fn read_number(plan: Plan, phase: Phase, image: &[u8], unit: u16) -> u16
 pub fn wake_number(plan: Plan, phase: Phase, image: &[u8]) -> u16
     ensures { λ r. ⌜ r ≡ wakeNumber (viewOf plan phase (now (image .entry))) ⌝ }
 {
-    let number = format_number(plan, phase, image.len());
+    let number = format_number(plan, phase, image);
     if number != 0 {
         return number;
     }

@@ -8,6 +8,7 @@ ghost use Rattle.model.proofs.RefusalLaws.{PlanOk};
 ghost use Rattle.model.specs.Marker.{direction};
 ghost use Rattle.model.specs.Refusals.{anyForeign};
 ghost use Rattle.model.specs.Calls.{cleanupFrom};
+ghost use Rattle.search.specs.Found.{lowestFrom, found};
 use layout::base_of;
 use layout::unit_length;
 use model::Direction;
@@ -29,10 +30,16 @@ fn direction_of(marker: u8) -> Direction
     }
 }
 
-// The cleanup of the lowest unit from `from` on whose marker isn't OK, or Ready.
-pub fn cleanup_from(plan: Plan, image: &[u8], from: u16) -> Phase
+// What the search found: a unit whose marker isn't OK, with that marker, or nothing.
+pub enum Found {
+    At { unit: u16, marker: u8 },
+    Nothing,
+}
+
+// The lowest unit from `from` on whose marker isn't OK.
+pub fn lowest_bad(plan: Plan, image: &[u8], from: u16) -> Found
     requires { ⌜ PlanOk plan × (total plan ≤ length (now image)) ⌝ }
-    ensures { λ r. ⌜ r ≡ cleanupFrom plan (now (image .entry)) from ⌝ }
+    ensures { λ r. ⌜ r ≡ found plan (now (image .entry)) (lowestFrom plan (now (image .entry)) from) ⌝ }
 {
     let count = plan.count;
     let mut unit = from;
@@ -40,17 +47,34 @@ pub fn cleanup_from(plan: Plan, image: &[u8], from: u16) -> Phase
     while unit < count {
         let marker = image[at];
         if marker != Marker::OK {
-            let direction = direction_of(marker);
-            return Phase::Recovering {
+            return Found::At {
                 unit: unit,
-                made: 0,
-                direction: direction,
+                marker: marker,
             };
         }
         at = at + unit_length(plan, unit);
         unit = unit + 1;
     }
-    Phase::Ready
+    Found::Nothing
+}
+
+// The cleanup of the lowest unit from `from` on whose marker isn't OK, or Ready.
+pub fn cleanup_from(plan: Plan, image: &[u8], from: u16) -> Phase
+    requires { ⌜ PlanOk plan × (total plan ≤ length (now image)) ⌝ }
+    ensures { λ r. ⌜ r ≡ cleanupFrom plan (now (image .entry)) from ⌝ }
+{
+    let lowest = lowest_bad(plan, image, from);
+    match lowest {
+        Found::At { unit, marker } => {
+            let direction = direction_of(marker);
+            Phase::Recovering {
+                unit: unit,
+                made: 0,
+                direction: direction,
+            }
+        }
+        Found::Nothing => Phase::Ready,
+    }
 }
 
 // Whether any unit's marker is foreign, so that the memory is another product's.

@@ -16,13 +16,15 @@ use Rattle.model.specs.declared.Phase.{Phase}
 use Rattle.model.specs.declared.Phase.the-variants.{Cold}
 use Rattle.model.specs.Layout.{copyA, width, copyOf}
 use Rattle.model.specs.Refusals.{isReady, first, deviceRow, inspectNumber, readNumber, beginNumber}
-use Rattle.model.specs.Calls.{jobOf, viewOf, view, Outcome, outcome, unlessRefused, noPlan, startAnswer, partUnlessRefused, cleanupFrom, inspection, inspect}
+use Rattle.model.specs.Calls.{jobOf, viewOf, view, Outcome, outcome, unlessRefused, noPlan, startAnswer, partUnlessRefused, inspection, inspect}
 use Rattle.model.proofs.RefusalLaws.{first-past, past, begin-says, width-bounds}
 use Rattle.layout.specs.declared.Span.{Span}
 use Rattle.layout.specs.Spans.{spanOf, Spans, Sound}
 use Rattle.layout.proofs.Laws.{room, span-sound, span-inside, looked-up}
 use Rattle.refusal.proofs.Laws.{live}
-use Rattle.search.proofs.Search.{cleaned, search-names}
+use Rattle.search.specs.declared.Found.{Found}
+use Rattle.search.specs.Found.{lowestFrom, found}
+use Rattle.search.proofs.Search.{named, found-named}
 
 -- ---- k is the code's number, n the definition's
 pub refused : (d : Device) (image : List ℕ) (k n : ℕ) (o : Outcome) → k ≡ n → ¬ (k ≡ 0)
@@ -114,9 +116,8 @@ inspect-refused d image zero e h = absurd (h refl)
 inspect-refused d image (suc k) e h = rw (sym e)
 
 pub inspect-says : (d : Device) (image : List ℕ) (k : ℕ) → k ≡ inspectNumber (view (modelled d) image) → k ≡ 0
-    → (found phase : Phase) → found ≡ cleanupFrom (d .plan) image 0 → found ≡ phase
-    → inspection 0 (cleaned phase) ≡ inspect (modelled d) image
+    → (r : Found) → r ≡ found (d .plan) image (lowestFrom (d .plan) image 0) → inspection 0 (named r) ≡ inspect (modelled d) image
 unfolding inspect
-inspect-says d image k e z found phase is f =
+inspect-says d image k e z r is =
     let n : inspectNumber (view (modelled d) image) ≡ 0 = sym e ∙ z in
-    rw n (ap (inspection 0) (ap cleaned (sym f ∙ is) ∙ search-names (d .plan) image))
+    rw n (ap (inspection 0) (ap named is ∙ found-named (d .plan) image))

@@ -24,7 +24,9 @@ use refusal::begin_number;
 use refusal::format_number;
 use refusal::read_number;
 use refusal::wake_number;
+use search::Found;
 use search::cleanup_from;
+use search::lowest_bad;
 
 // `stores` counts the completed stores, for the memory chip's rating.
 pub struct Device {
@@ -113,7 +115,7 @@ impl Device {
     {
         let plan = self.plan;
         let phase = self.phase;
-        let number = format_number(plan, phase, image.len());
+        let number = format_number(plan, phase, &image[..]);
         if number != 0 {
             return Answer {
                 number: number,
@@ -292,16 +294,10 @@ impl Device {
         if number != 0 {
             return Inspection::Refused(number);
         }
-        let found = cleanup_from(plan, image, 0);
-        match found {
-            Phase::Cold => Inspection::AllOk,
-            Phase::Ready => Inspection::AllOk,
-            Phase::Writing { unit: _, made: _ } => Inspection::AllOk,
-            Phase::Recovering {
-                unit,
-                made: _,
-                direction: _,
-            } => Inspection::Suspect(unit),
+        let lowest = lowest_bad(plan, image, 0);
+        match lowest {
+            Found::At { unit, marker: _ } => Inspection::Suspect(unit),
+            Found::Nothing => Inspection::AllOk,
         }
     }
 }

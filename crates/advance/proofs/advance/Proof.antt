@@ -29,23 +29,29 @@ enum-known-phase-2 c = search needs
 advance-cleaning-requires : tie.Need-advance-cleaning-requires
 advance-cleaning-requires c κs = search needs
 
-returns : tie.Need-returns
-returns c = let a = c .before .before .before .before .before .args in
-    idle-refused (a .plan) (now (a .payload)) (a .phase) (a .before) (now (a .image)) (rw (c .before .enum-told .given .1)) _ (c .advance-idle .ensures)
-
-returns-2 : tie.Need-returns-2
-returns-2 c = let a = c .before .before .before .before .before .args in
-    idle-refused (a .plan) (now (a .payload)) (a .phase) (a .before) (now (a .image)) (rw (c .before .enum-told2 .given .1)) _ (c .advance-idle2 .ensures)
-
 same-length : tie.Need-same-length
 same-length c = search needs
+
+returns : tie.Need-returns
+returns c = let a = c .before .before .before .before .before .before .args in
+    idle-refused (a .plan) (now (a .payload)) (a .phase) (a .before) (now (a .image)) (rw (c .before .before .enum-told .given .1)) _ (c .advance-idle .ensures)
+
+same-length-2 : tie.Need-same-length-2
+same-length-2 c = search needs
+
+returns-2 : tie.Need-returns-2
+returns-2 c = let a = c .before .before .before .before .before .before .args in
+    idle-refused (a .plan) (now (a .payload)) (a .phase) (a .before) (now (a .image)) (rw (c .before .before .enum-told2 .given .1)) _ (c .advance-idle2 .ensures)
+
+same-length-3 : tie.Need-same-length-3
+same-length-3 c = search needs
 
 returns-3 : tie.Need-returns-3
 returns-3 c = let a = c .before .before .before .before .before .before .before .before .before .args in
     by-case (a .plan) (now (a .payload)) (a .phase) _ (a .before) (now (a .image)) _ _ (c .before .before .before .before .before .phase .given .1) (c .before .before .advance-writing .ensures)
 
-same-length-2 : tie.Need-same-length-2
-same-length-2 c = search needs
+same-length-4 : tie.Need-same-length-4
+same-length-4 c = search needs
 
 returns-4 : tie.Need-returns-4
 returns-4 c = let a = c .before .before .before .before .before .before .before .before .before .args in
@@ -63,9 +69,11 @@ advance-spec =
     advance-writing-requires
     enum-known-phase-2
     advance-cleaning-requires
-    returns
-    returns-2
     same-length
-    returns-3
+    returns
     same-length-2
+    returns-2
+    same-length-3
+    returns-3
+    same-length-4
     returns-4)

@@ -9,7 +9,7 @@ step-number-requires : tie.Need-step-number-requires
 step-number-requires c κs = search needs
 
 returns : tie.Need-returns
-returns c = let a = c .before .args in
+returns c = let a = c .before .before .args in
     ap (λ (n : ℕ). record { number = n; phase = a .phase; stores = a .earlier }) (c .step-number .ensures)
 
 pub advance-idle-spec : {M : Type 1} → statement M

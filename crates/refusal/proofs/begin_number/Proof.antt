@@ -31,7 +31,7 @@ returns-2 : tie.Need-returns-2
 unfolding beginNumber
 returns-2 c = let a = c .before .before .before .before .before .before .args in
     sym (phase-passed (a .plan) (a .phase) (length (now (a .image))) _ _ (c .before .before .before .phase-number .ensures) (c .before .before .before .before .not-ready .ensures) (c .before .before .if1 .left) _
-    ∙ first-stop 6 _ _ (le-leb _ _ (c .if2 .taken)))
+    ∙ first-stop 6 _ _ (le-leb (a .plan .count) (a .unit) (omega (arith, c .if2 .taken))))
 
 width-of-requires : tie.Need-width-of-requires
 width-of-requires c κs = search needs
@@ -43,7 +43,7 @@ returns-3 : tie.Need-returns-3
 unfolding beginNumber
 returns-3 c = let a = c .before .before .before .before .before .before .before .before .args in
     sym (phase-passed (a .plan) (a .phase) (length (now (a .image))) _ _ (c .before .before .before .before .before .phase-number .ensures) (c .before .before .before .before .before .before .not-ready .ensures) (c .before .before .before .before .if1 .left) _
-    ∙ first-skip 6 _ _ (lt-leb _ _ (c .before .before .if2 .left))
+    ∙ first-skip 6 _ _ (lt-leb (a .plan .count) (a .unit) (omega (arith, c .before .before .if2 .left)))
     ∙ first-stop 7 _ _ (ap not (ne-eqb (a .size) (width (a .plan) (a .unit)) (λ q. absurd (omega (arith, c .if3 .taken, c .before .width-of .ensures, q))))))
 
 base-of-requires : tie.Need-base-of-requires
@@ -52,13 +52,13 @@ base-of-requires c κs = search needs
 shared-slice-read-if4 : tie.Need-shared-slice-read-if4
 shared-slice-read-if4 c = let a = c .before .before .before .before .before .before .before .before .before .before .args in
     let l = live (a .plan) (a .phase) (now (a .image)) _ _ (c .before .before .before .before .before .before .before .phase-number .ensures) (c .before .before .before .before .before .before .if1 .left) in
-    omega (arith, unit-some (a .plan) (room (a .plan) (a .phase) (now (a .image)) l .ok) (a .unit), unit-inside (a .plan) (a .phase) (now (a .image)) l (a .unit) (c .before .before .before .before .if2 .left), c .before .base-of .ensures .0)
+    omega (arith, unit-some (a .plan) (room (a .plan) (a .phase) (now (a .image)) l .ok) (a .unit), unit-inside (a .plan) (a .phase) (now (a .image)) l (a .unit) (omega (arith, c .before .before .before .before .if2 .left)), c .before .base-of .ensures .0)
 
 returns-4 : tie.Need-returns-4
 unfolding beginNumber
 returns-4 c = let a = c .before .before .before .before .before .before .before .before .before .before .before .args in
     sym (phase-passed (a .plan) (a .phase) (length (now (a .image))) _ _ (c .before .before .before .before .before .before .before .before .phase-number .ensures) (c .before .before .before .before .before .before .before .before .before .not-ready .ensures) (c .before .before .before .before .before .before .before .if1 .left) _
-    ∙ first-skip 6 _ _ (lt-leb _ _ (c .before .before .before .before .before .if2 .left))
+    ∙ first-skip 6 _ _ (lt-leb (a .plan .count) (a .unit) (omega (arith, c .before .before .before .before .before .if2 .left)))
     ∙ first-skip 7 _ _ (ap not (eq-eqb (a .size) (width (a .plan) (a .unit)) (omega (arith, c .before .before .before .if3 .left, c .before .before .before .before .width-of .ensures))))
     ∙ first-stop 8 _ [] (marker-bad (a .plan) (a .phase) (now (a .image)) (a .unit) _ (c .before .before .base-of .ensures .0) (c .if4 .taken)))
 
@@ -66,7 +66,7 @@ returns-5 : tie.Need-returns-5
 unfolding beginNumber
 returns-5 c = let a = c .before .before .before .before .before .before .before .before .before .before .before .args in
     sym (phase-passed (a .plan) (a .phase) (length (now (a .image))) _ _ (c .before .before .before .before .before .before .before .before .phase-number .ensures) (c .before .before .before .before .before .before .before .before .before .not-ready .ensures) (c .before .before .before .before .before .before .before .if1 .left) _
-    ∙ first-skip 6 _ _ (lt-leb _ _ (c .before .before .before .before .before .if2 .left))
+    ∙ first-skip 6 _ _ (lt-leb (a .plan .count) (a .unit) (omega (arith, c .before .before .before .before .before .if2 .left)))
     ∙ first-skip 7 _ _ (ap not (eq-eqb (a .size) (width (a .plan) (a .unit)) (omega (arith, c .before .before .before .if3 .left, c .before .before .before .before .width-of .ensures))))
     ∙ first-skip 8 _ [] (marker-good (a .plan) (a .phase) (now (a .image)) (a .unit) _ (c .before .before .base-of .ensures .0) (c .if4 .left)) ∙ first-none)
 

@@ -1,82 +1,38 @@
--- `search::cleanup_from` meets its contract. The loop's invariant: the search from here on gives the answer.
-use borrow.Author.Needs.{needs}
-use native.Mathlib.Omega.{arith}
+-- `search::cleanup_from` meets its contract: the cleanup of the unit found.
 use denote.Ref.{now}
-use Prim.Native.Nat.{_-_}
-use mathlib.Core.Path.{_≡_, refl, sym, ap, _∙_}
-use Rattle.model.specs.declared.Phase.the-variants.{Recovering}
-use Rattle.model.proofs.LayoutLaws.{unit-some, base-bound}
-use Rattle.layout.proofs.Laws.{base-more}
-use Rattle.search.proofs.Search.{search-skip, search-stop, search-end}
-use Rattle.model.specs.Layout.{base}
-use Rattle.model.specs.Calls.{cleanupFrom}
+use mathlib.Core.Path.{sym, ap, _∙_}
+use Rattle.search.proofs.Search.{cleaned, found-cleaned}
+use borrow.Author.Needs.{needs}
 use Rattle.search.proofs.cleanup_from.Statement.{statement}
 use Rattle.search.proofs.cleanup_from.Tie as tie
 
-abbrev Inv-loop : tie.InvT-loop
-Inv-loop plan image from count unit₀ at₀ unit at = (at ≡ base plan unit) × (cleanupFrom plan image unit ≡ cleanupFrom plan image from)
+lowest-bad-requires : tie.Need-lowest-bad-requires
+lowest-bad-requires c κs = search needs
 
-abbrev μ-loop : tie.MeasureT-loop
-μ-loop plan image from count unit₀ at₀ unit at = count - unit
+enum-known-lowest : tie.Need-enum-known-lowest
+enum-known-lowest c = search needs
 
-base-of-requires : tie.Need-base-of-requires Inv-loop μ-loop
-base-of-requires c κs = search needs
-
-loop-holds : tie.Need-loop-holds Inv-loop μ-loop
-loop-holds c = (c .base-of .ensures .0, refl)
-
-shared-slice-read-marker : tie.Need-shared-slice-read-marker Inv-loop μ-loop
-shared-slice-read-marker c = let p = c .before .before .before .before .before .args .plan in
-    omega (arith, unit-some p (c .before .before .before .before .before .pre .0) (c .before .before .loop .unit), base-bound p (c .before .before .before .before .before .pre .0) (c .before .before .loop .unit) (p .count) (c .before .loop-test .taken), c .before .before .before .before .before .pre .1)
-
-direction-of-requires : tie.Need-direction-of-requires Inv-loop μ-loop
+direction-of-requires : tie.Need-direction-of-requires
 direction-of-requires c κs = search needs
 
-returns : tie.Need-returns Inv-loop μ-loop
-returns c = let a = c .before .before .before .before .before .before .before .args in
-    let r = c .before .before .before .before in
-    ap (λ d. Recovering (r .loop .unit) 0 d) (c .direction-of .ensures)
-    ∙ sym (search-stop (a .plan) (now (a .image)) _ _ (r .loop .inv .0) (c .before .before .before .loop-test .taken) (c .before .if1 .taken))
-    ∙ r .loop .inv .1
+enum-told : tie.Need-enum-told
+enum-told c = search needs
 
-unit-length-requires : tie.Need-unit-length-requires Inv-loop μ-loop
-unit-length-requires c κs = search needs
+returns : tie.Need-returns
+returns c = let a = c .before .before .before .before .before .before .args in
+    rw (c .direction-of .ensures) (ap cleaned (sym (c .before .before .lowest .given .1) ∙ c .before .before .before .before .lowest-bad .ensures) ∙ found-cleaned (a .plan) (now (a .image)) (a .from))
 
-add-at : tie.Need-add-at Inv-loop μ-loop
-add-at c = let p = c .before .before .before .before .before .before .before .args .plan in
-    omega (arith, base-bound p (c .before .before .before .before .before .before .before .pre .0) (c .before .before .before .before .loop .unit) (p .count) (c .before .before .before .loop-test .taken), c .before .before .before .before .before .before .before .pre .1, c .unit-length .ensures .0)
-
-add-unit : tie.Need-add-unit Inv-loop μ-loop
-add-unit c = search needs
-
-loop-less : tie.Need-loop-less Inv-loop μ-loop
-loop-less c = search needs
-
-loop-again : tie.Need-loop-again Inv-loop μ-loop
-loop-again c = let a = c .before .before .before .before .before .before .before .args in
-    let r = c .before .before .before .before in (
-      omega (arith, base-more (a .plan) (r .loop .unit), r .loop .inv .0, c .unit-length .ensures .0),
-      search-skip (a .plan) (now (a .image)) _ _ (r .loop .inv .0) (c .before .before .before .loop-test .taken) (c .before .if1 .left) ∙ r .loop .inv .1,
-    )
-
-returns-2 : tie.Need-returns-2 Inv-loop μ-loop
+returns-2 : tie.Need-returns-2
 returns-2 c = let a = c .before .before .before .before .args in
-    sym (search-end (a .plan) (now (a .image)) _ (c .loop-test .left)) ∙ c .before .loop .inv .1
+    ap cleaned (sym (c .enum-told .given .1) ∙ c .before .before .lowest-bad .ensures) ∙ found-cleaned (a .plan) (now (a .image)) (a .from)
 
 pub cleanup-from-spec : {M : Type 1} → statement M
 cleanup-from-spec =
     tie.close
     (tie.spec
-    Inv-loop
-    μ-loop
-    base-of-requires
-    loop-holds
-    shared-slice-read-marker
+    lowest-bad-requires
+    enum-known-lowest
     direction-of-requires
+    enum-told
     returns
-    unit-length-requires
-    add-at
-    add-unit
-    loop-less
-    loop-again
     returns-2)
