@@ -1,4 +1,4 @@
-// The refusals by name; 0 is accepted. The same names stand in specs/Refusals.antt and in the project's README.
+// The refusals by name; 0 is accepted. The same names stand in specs/Numbers.antt and in the project's README.
 
 // No unit, or more than eight.
 pub const BAD_COUNT: u16 = 1;
