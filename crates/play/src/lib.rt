@@ -17,6 +17,7 @@ ghost use Rattle.model.specs.Calls.{begin};
 ghost use Rattle.store.specs.Modelled.{modelled, Gives};
 ghost use Rattle.token.specs.declared.Kind.the-variants.{Byte};
 ghost use Rattle.script.specs.declared.Line.the-variants.{Is};
+ghost use Rattle.token.specs.Ascii.{ascii};
 ghost use Rattle.token.specs.Items.{valuesAt};
 ghost use Rattle.script.specs.Line.{formOf};
 ghost use Rattle.printing.specs.Text.{answerLine, lineMost};
@@ -57,6 +58,15 @@ fn print(out: &mut [u8], used: usize, word: &[u8], number: usize) -> usize
 {
     let at = room(out, used);
     put_answer(out, at, word, number)
+}
+
+// Prints that a line is bad.
+fn print_bad(out: &mut [u8], used: usize, number: usize) -> usize
+    requires { ⌜ Buffer (now out) used × (number < 100000) ⌝ }
+    ensures { λ r. ⌜ Wrote (now (out .entry)) (placeFor (length (now (out .entry))) used) (answerLine (ascii "bad") number)
+        (now (out .exit)) r × Buffer (now (out .exit)) r ⌝ }
+{
+    print(out, used, b"bad", number)
 }
 
 // Prints a line a unit.
@@ -175,11 +185,11 @@ fn play_lines(
         let read = reader::read_line(text, at);
         // "Any line that isn't one of these forms prints `bad` and its decimal line number, and the run ends."
         let Read::Form { form, start, end } = read else {
-            return print(out, used, b"bad", number);
+            return print_bad(out, used, number);
         };
         let after = play(form, &text[start..end], plan, device, image, out, used);
         if after.bad {
-            return print(out, after.used, b"bad", number);
+            return print_bad(out, after.used, number);
         }
         device = after.device;
         used = after.used;
@@ -210,17 +220,17 @@ fn run(text: &[u8], image: &mut [u8], out: &mut [u8]) -> usize
     ensures { λ r. ⌜ Buffer (now (out .exit)) r ⌝ }
 {
     if 65536 < text.len() {
-        return print(out, 0, b"bad", 0);
+        return print_bad(out, 0, 0);
     }
     if text.len() == 0 {
         return 0;
     }
     let read = reader::read_line(text, 0);
     let Read::Form { form, start, end } = read else {
-        return print(out, 0, b"bad", 1);
+        return print_bad(out, 0, 1);
     };
     let Form::Plan { at, count } = form else {
-        return print(out, 0, b"bad", 1);
+        return print_bad(out, 0, 1);
     };
     let widths = script::widths_at(&text[start..end], at, count);
     let plan = Plan {

@@ -9,10 +9,10 @@ use Rattle.play.proofs.play_lines.Statement.{statement}
 use Rattle.play.proofs.play_lines.Tie as tie
 
 abbrev Inv-loop : tie.InvT-loop
-Inv-loop text from plan image₀ out₀ printed at₀ number₀ device₀ used₀ t17 t18 image out at number device used = (used ≤ length out) × (length out ≡ length out₀) × (length image ≡ length image₀) × (number ≤ at) × (at ≤ length text + 1)
+Inv-loop text from plan image₀ out₀ printed at₀ number₀ device₀ used₀ image out at number device used = (used ≤ length out) × (length out ≡ length out₀) × (length image ≡ length image₀) × (number ≤ at) × (at ≤ length text + 1)
 
 abbrev μ-loop : tie.MeasureT-loop
-μ-loop text from plan image₀ out₀ printed at₀ number₀ device₀ used₀ t17 t18 image out at number device used = length text - at
+μ-loop text from plan image₀ out₀ printed at₀ number₀ device₀ used₀ image out at number device used = length text - at
 
 loop-holds : tie.Need-loop-holds Inv-loop μ-loop
 loop-holds c = search needs
@@ -29,11 +29,8 @@ enum-known-read c = search needs
 enum-told : tie.Need-enum-told Inv-loop μ-loop
 enum-told c = search needs
 
-slice-aggregate-print : tie.Need-slice-aggregate-print Inv-loop μ-loop
-slice-aggregate-print c = search needs
-
-print-requires : tie.Need-print-requires Inv-loop μ-loop
-print-requires c κs = search needs
+print-bad-requires : tie.Need-print-bad-requires Inv-loop μ-loop
+print-bad-requires c κs = search needs
 
 same-length : tie.Need-same-length Inv-loop μ-loop
 same-length c = search needs
@@ -64,11 +61,8 @@ play-requires c κs =
     let f = read-found _ _ _ _ _ (sym (c .before .before .before .before .before .before .read-line .ensures) ∙ c .before .before .before .before .read .given .1) in
     (f .says, search needs, search needs)
 
-slice-aggregate-print-2 : tie.Need-slice-aggregate-print-2 Inv-loop μ-loop
-slice-aggregate-print-2 c = search needs
-
-print-requires-2 : tie.Need-print-requires-2 Inv-loop μ-loop
-print-requires-2 c κs = (c .before .before .before .before .before .before .before .play .ensures .fits, search needs, search needs)
+print-bad-requires-2 : tie.Need-print-bad-requires-2 Inv-loop μ-loop
+print-bad-requires-2 c κs = (c .before .before .before .before .before .before .play .ensures .fits, search needs)
 
 same-length-3 : tie.Need-same-length-3 Inv-loop μ-loop
 same-length-3 c = search needs
@@ -114,8 +108,7 @@ play-lines-spec =
     read-line-requires
     enum-known-read
     enum-told
-    slice-aggregate-print
-    print-requires
+    print-bad-requires
     same-length
     same-length-2
     returns
@@ -123,8 +116,7 @@ play-lines-spec =
     part-play-start
     part-play-end
     play-requires
-    slice-aggregate-print-2
-    print-requires-2
+    print-bad-requires-2
     same-length-3
     same-length-4
     returns-2

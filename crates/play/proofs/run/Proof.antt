@@ -8,11 +8,8 @@ use Rattle.reader.proofs.Found.{read-found}
 use Rattle.play.proofs.run.Statement.{statement}
 use Rattle.play.proofs.run.Tie as tie
 
-slice-aggregate-print : tie.Need-slice-aggregate-print
-slice-aggregate-print c = search needs
-
-print-requires : tie.Need-print-requires
-print-requires c κs = search needs
+print-bad-requires : tie.Need-print-bad-requires
+print-bad-requires c κs = search needs
 
 same-length : tie.Need-same-length
 same-length c = search needs
@@ -32,11 +29,8 @@ enum-known-read c = search needs
 enum-told : tie.Need-enum-told
 enum-told c = search needs
 
-slice-aggregate-print-2 : tie.Need-slice-aggregate-print-2
-slice-aggregate-print-2 c = search needs
-
-print-requires-2 : tie.Need-print-requires-2
-print-requires-2 c κs = search needs
+print-bad-requires-2 : tie.Need-print-bad-requires-2
+print-bad-requires-2 c κs = search needs
 
 same-length-2 : tie.Need-same-length-2
 same-length-2 c = search needs
@@ -47,11 +41,8 @@ returns-3 c = search needs
 enum-known-form : tie.Need-enum-known-form
 enum-known-form c = search needs
 
-slice-aggregate-print-3 : tie.Need-slice-aggregate-print-3
-slice-aggregate-print-3 c = search needs
-
-print-requires-3 : tie.Need-print-requires-3
-print-requires-3 c κs = search needs
+print-bad-requires-3 : tie.Need-print-bad-requires-3
+print-bad-requires-3 c κs = search needs
 
 same-length-3 : tie.Need-same-length-3
 same-length-3 c = search needs
@@ -77,8 +68,8 @@ part-widths-at-end c =
 widths-at-requires : tie.Need-widths-at-requires
 widths-at-requires c κs = search needs
 
-cast-t32 : tie.Need-cast-t32
-cast-t32 c =
+cast-t23 : tie.Need-cast-t23
+cast-t23 c =
     let f = read-found _ _ _ _ _ (sym (c .before .before .before .before .before .before .before .before .read-line .ensures) ∙ c .before .before .before .before .before .before .read .given .1) in
     let few = plan-count _ _ _ (f .says ∙ ap Is (c .before .before .before .form .given .1)) in
     search needs
@@ -106,28 +97,25 @@ pub run-spec : {M : Type 1} → statement M
 run-spec =
     tie.close
     (tie.spec
-    slice-aggregate-print
-    print-requires
+    print-bad-requires
     same-length
     returns
     returns-2
     read-line-requires
     enum-known-read
     enum-told
-    slice-aggregate-print-2
-    print-requires-2
+    print-bad-requires-2
     same-length-2
     returns-3
     enum-known-form
-    slice-aggregate-print-3
-    print-requires-3
+    print-bad-requires-3
     same-length-3
     returns-4
     sub-widths-at
     part-widths-at-start
     part-widths-at-end
     widths-at-requires
-    cast-t32
+    cast-t23
     add-play-plan
     play-plan-requires
     same-length-4
