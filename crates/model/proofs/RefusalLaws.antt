@@ -60,7 +60,7 @@ first-front (r ∷ xs) ys e = go (r .holds) e (first-front xs ys)
     go true e rest = e
     go false e rest = rest e
 
-and-true : (x y : Bool) → x && y ≡ true → (x ≡ true) × (y ≡ true)
+pub and-true : (x y : Bool) → x && y ≡ true → (x ≡ true) × (y ≡ true)
 and-true true y e = (refl, e)
 and-true false y e = absurd (false≢true e)
 
