@@ -4,7 +4,7 @@ use native.Mathlib.Nat.{mul-le-mul}
 use native.Mathlib.Omega.{arith}
 use mathlib.Core.Path.{_≡_, refl, ap, sym, _∙_}
 use lib.ListN.{getD}
-use Rattle.model.specs.Drive.{driveRule, driveNumber, driveUnlessRefused, drive}
+use Rattle.model.specs.Drive.{driveNumber, driveUnlessRefused, drive}
 use Rattle.brake.specs.Over.{driveOverNumber, driveOver}
 use Rattle.brake.specs.Table.{drives}
 use Rattle.brake.specs.Promises.{Accepts, NoneDriven, NoneDrivenOver, Fits, Rises, OverConstant}
