@@ -1,11 +1,10 @@
 -- A step on the parts of a device against its definition: refused, or made.
 use Prim.Native.Nat.{ℕ, zero, suc, _+_, _<_, _≤_}
 use mathlib.Core.Path.{_≡_, refl, ap, sym, _∙_}
-use mathlib.Core.List.{List, [], _∷_, _++_}
+use mathlib.Core.List.{List, []}
 use mathlib.Core.Bool.{Bool, true, false, _||_}
 use native.Mathlib.Omega.{arith}
 use native.Mathlib.Numerals.{add-one}
-use lib.Dec.{leb}
 use lib.ListN.{length}
 use borrow.Author.Tests.{leb-false}
 use Rattle.model.specs.declared.Plan.{Plan}
@@ -14,14 +13,13 @@ use Rattle.model.specs.declared.Direction.{Direction}
 use Rattle.model.specs.declared.Phase.the-variants.{Ready, Writing, Recovering}
 use Rattle.model.specs.Marker.{completed}
 use Rattle.model.specs.Layout.{width, total}
-use Rattle.model.specs.Refusals.{WRONG-PHASE, isCold, isReady, badJob, writeTotal, cleanupTotal, _when_, first, deviceRow, stepNumber}
-use Rattle.model.specs.Stores.{stored}
-use Rattle.model.specs.Calls.{outcome, jobOf, viewOf, counted, next, imageAfter, cleanupFrom, phaseAfter, step}
-use Rattle.model.proofs.RefusalLaws.{first-skip, first-stop, first-none, first-refused, first-passed, first-front, false-or, PlanOk, width-bounds, count-bounds}
+use Rattle.model.specs.Refusals.{isCold, isReady, badJob, writeTotal, cleanupTotal, deviceRow, stepNumber}
+use Rattle.model.specs.Calls.{jobOf, viewOf, counted, next, imageAfter, cleanupFrom, phaseAfter, step}
+use Rattle.model.proofs.RefusalLaws.{first-skip, first-stop, first-none, first-refused, first-passed, first-front, false-or}
 use Rattle.model.proofs.LayoutLaws.{length-stored}
 use Rattle.model.proofs.StoreLaws.{write-goes-on, write-ends, cleanup-goes-on, cleanup-ends}
 use Rattle.layout.proofs.Laws.{Room, room}
-use Rattle.mirror.specs.Ends.{Stores, Ends, WriteEnds}
+use Rattle.mirror.specs.Ends.{Stores, Ends}
 use Rattle.mirror.specs.declared.Ended.{Ended}
 use Rattle.advance.specs.declared.Advanced.{Advanced}
 use Rattle.advance.specs.Advances.{parts, Advances}

@@ -5,11 +5,13 @@ use mathlib.Core.List.{List, [], _∷_}
 use mathlib.Core.Bool.{Bool, true, false, _||_}
 use native.Mathlib.Omega.{arith}
 use native.Mathlib.Numerals.{add-one}
-use lib.Dec.{eqb, ltb}
+use lib.Dec.{eqb, ltb, leb}
 use lib.ListN.{length}
 use borrow.Author.Tests.{lt-ltb, le-ltb, eq-eqb, ne-eqb, le-leb, lt-leb, ltb-false}
 use Rattle.model.specs.declared.Plan.{Plan}
+use Rattle.model.specs.declared.Direction.{Direction}
 use Rattle.model.specs.declared.Phase.{Phase}
+use Rattle.model.specs.declared.Phase.the-variants.{Writing, Recovering}
 use Rattle.model.specs.Layout.{width, base, total, unitLength}
 use Rattle.model.specs.Calls.{jobOf, viewOf}
 use Rattle.model.specs.Refusals.{SHORT-IMAGE, BAD-JOB, badCount, badWidths, badJob, _when_, first, startNumber}
@@ -97,11 +99,24 @@ module _ (p : Plan) where
   base-small ok zero h = omega arith
   base-small ok (suc u) h = omega (arith, base-small ok u (omega arith), width-bounds p ok u (omega arith) .1)
 
--- where plan and image are fine, refusal 4 is left
-pub before-job : (p : Plan) (phase : Phase) (length n b : ℕ) → n ≡ startNumber p → n ≡ 0 → b ≡ total p → b ≤ length
-    → first (imageRow p phase length) ≡ first (4 when badJob p (jobOf phase) ∷ [])
-before-job p phase length n b e z t l =
-    plan-passed p _ (sym e ∙ z) ∙ first-skip 3 _ _ (le-ltb length (total p) (rw t at l))
+-- where plan and image are fine, refusal 4 is left: n is measure's number, b its total, k what is said of the job
+module _ (p : Plan) (phase : Phase) (length n b : ℕ) (e : n ≡ startNumber p) (z : n ≡ 0) (t : b ≡ total p) (l : b ≤ length) where
+  before-job : first (imageRow p phase length) ≡ first (4 when badJob p (jobOf phase) ∷ [])
+  before-job = plan-passed p _ (sym e ∙ z) ∙ first-skip 3 _ _ (le-ltb length (total p) (rw t at l))
+
+  pub no-job : badJob p (jobOf phase) ≡ false → 0 ≡ first (imageRow p phase length)
+  no-job h = sym (before-job ∙ first-skip 4 _ [] h ∙ first-none)
+
+  module _ (u made w k : ℕ) (ew : w ≡ width p u) where
+    pub writing-job : phase ≡ Writing u made → k ≡ first (4 when (leb (p .count) u || leb (2 * w + 3) made) ∷ [])
+        → k ≡ first (imageRow p phase length)
+    unfolding badJob
+    writing-job is ek = ek ∙ sym (before-job ∙ rw (is, ← ew))
+
+    pub cleaning-job : (d : Direction) → phase ≡ Recovering u made d
+        → k ≡ first (4 when (leb (p .count) u || leb (w + 1) made) ∷ []) → k ≡ first (imageRow p phase length)
+    unfolding badJob
+    cleaning-job d is ek = ek ∙ sym (before-job ∙ rw (is, ← ew))
 
 -- ---- a unit looked up: r is the code's; n is measure's number, b its total
 module _ (p : Plan) (u length : ℕ) (r : Span) where

@@ -1,5 +1,5 @@
 -- The store that the code picks, and what becomes of it.
-use Prim.Native.Nat.{ℕ, _+_, _*_, _<_, _≤_}
+use Prim.Native.Nat.{ℕ, _+_, _<_, _≤_}
 use mathlib.Core.Path.{_≡_, refl, ap, sym, _∙_}
 use mathlib.Core.List.{List, [], _∷_, _++_}
 use mathlib.Core.Option.{Option, none, some}
@@ -10,7 +10,7 @@ use lib.ListN.{length, getD, set}
 use borrow.Author.Tests.{ne-eqb, le-ltb, lt-leb, le-leb}
 use Rattle.mirror.specs.declared.Choice.{Choice}
 use Rattle.mirror.specs.declared.Ended.{Ended}
-use Rattle.mirror.specs.Picked.{Left, At, Picked}
+use Rattle.mirror.specs.Picked.{At, Picked}
 use Rattle.mirror.specs.Ends.{leaves, Stores, Ends}
 use Rattle.mirror.proofs.Laws.{span-base, span-width}
 use Rattle.model.specs.declared.Plan.{Plan}

@@ -13,14 +13,16 @@ use Rattle.store.specs.Modelled.{modelled, blanked, Gives, Starts}
 use Rattle.model.specs.declared.Plan.{Plan}
 use Rattle.model.specs.declared.Inspection.the-variants.{Refused}
 use Rattle.model.specs.declared.Phase.{Phase}
-use Rattle.model.specs.declared.Phase.the-variants.{Cold}
+use Rattle.model.specs.declared.Phase.the-variants.{Cold, Writing}
 use Rattle.model.specs.Layout.{copyA, width, copyOf}
-use Rattle.model.specs.Refusals.{isReady, first, deviceRow, inspectNumber, readNumber, beginNumber}
-use Rattle.model.specs.Calls.{jobOf, viewOf, view, Outcome, outcome, unlessRefused, noPlan, startAnswer, partUnlessRefused, inspection, inspect}
+use Rattle.model.specs.Refusals.{isReady, first, deviceRow, inspectNumber, readNumber, beginNumber, cutNumber}
+use Rattle.model.specs.Marker.{tornBy}
+use Rattle.model.specs.Calls.{jobOf, viewOf, view, zeroPayload, padded, asBegun, begin, cut, imageAfter, Outcome, outcome, unlessRefused, noPlan, startAnswer, partUnlessRefused, inspection, inspect}
 use Rattle.model.proofs.RefusalLaws.{first-past, past, begin-says, width-bounds}
 use Rattle.layout.specs.declared.Span.{Span}
 use Rattle.layout.specs.Spans.{spanOf, Spans, Sound}
 use Rattle.layout.proofs.Laws.{room, span-sound, span-inside, looked-up}
+use Rattle.mirror.specs.Ends.{Stores}
 use Rattle.refusal.proofs.Laws.{live}
 use Rattle.search.specs.declared.Found.{Found}
 use Rattle.search.specs.Found.{lowestFrom, found}
@@ -36,6 +38,32 @@ pub accepted : (r : Answer) (left : List ℕ) (d : Device) (image : List ℕ) (k
     → Gives r left o → Gives r left (unlessRefused n (modelled d) image o)
 accepted r left d image k zero o e z g = g
 accepted r left d image k (suc n) o e z g = absurd (omega arith)
+
+-- ---- begin and cut, over variables: their definitions are long
+module _ (d : Device) (image : List ℕ) (k : ℕ) where
+  module _ (u : ℕ) (payload : List ℕ) (e : k ≡ beginNumber (viewOf (d .plan) (d .phase) image) u (length payload)) where
+    pub begin-refused : ¬ (k ≡ 0) → Gives (record { number = k; device = d }) image (begin (modelled d) image u payload)
+    unfolding begin
+    begin-refused h = refused d image k _ _ e h
+
+    pub begin-accepted : k ≡ 0 → (xs : List ℕ) → xs ≡ padded payload
+        → Gives (record { number = 0; device = record { plan = d .plan; payload = xs; phase = Writing u 0; stores = d .stores } }) image
+        (begin (modelled d) image u payload)
+    unfolding begin
+    begin-accepted z xs is =
+        accepted _ image d image k _ _ e z
+        (record { number = refl; device = ap (λ (t : List ℕ). asBegun u t (modelled d)) is; image = refl })
+
+  module _ (m : ℕ) (after : List ℕ) (s : Stores (d .plan) (d .payload) (d .phase) (tornBy m) image after k) where
+    pub cut-refused : ¬ (k ≡ 0) → Gives (record { number = k; device = d }) after (cut (modelled d) image m)
+    unfolding cut cutNumber
+    cut-refused h = rw (s .kept h) (refused d image k _ _ (s .number) h)
+
+    pub cut-accepted : k ≡ 0
+        → Gives (record { number = 0; device = record { plan = d .plan; payload = zeroPayload; phase = Cold; stores = d .stores } }) after
+        (cut (modelled d) image m)
+    unfolding cut cutNumber imageAfter
+    cut-accepted z = accepted _ after d image k _ _ (s .number) z (record { number = refl; device = refl; image = s .image z })
 
 -- ---- a step's outcome is the answer's
 pub gives : (d : Device) (k : ℕ) (left : List ℕ) (o : Outcome) → outcome k (modelled d) left ≡ o

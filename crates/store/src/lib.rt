@@ -167,14 +167,14 @@ impl Device {
         let phase = self.phase;
         let stores = self.stores;
         let after = advance(plan, &payload, phase, stores, &mut image[..]);
-        let next = after.phase;
+        let reached = after.phase;
         let made = after.stores;
         Answer {
             number: after.number,
             device: Device {
                 plan: plan,
                 payload: payload,
-                phase: next,
+                phase: reached,
                 stores: made,
             },
         }

@@ -1,9 +1,11 @@
 -- `layout::device_number` meets its contract: the plan's row first, then 3, then 4 by the phase.
+use native.Mathlib.Omega.{arith}
 use mathlib.Core.Path.{sym, _∙_}
 use borrow.Author.Tests.{lt-ltb}
-use Rattle.model.specs.Refusals.{first, badJob, startNumber}
+use Rattle.model.specs.Layout.{total}
+use Rattle.model.specs.Refusals.{badJob, startNumber}
 use Rattle.model.proofs.RefusalLaws.{first-refused, first-stop, plan-passed}
-use Rattle.layout.proofs.Laws.{before-job}
+use Rattle.layout.proofs.Laws.{no-job, writing-job, cleaning-job}
 use borrow.Author.Needs.{needs}
 use Rattle.layout.proofs.device_number.Statement.{statement}
 use Rattle.layout.proofs.device_number.Tie as tie
@@ -21,8 +23,9 @@ returns c = let n = c .before .before .measure .ensures .number in n ∙ sym (fi
 returns-2 : tie.Need-returns-2
 returns-2 c = let a = c .before .before .before .before .args in
     let m = c .before .before .before .measure .ensures in
-    sym (plan-passed (a .plan) _ (sym (m .number) ∙ c .before .if1 .left)
-    ∙ first-stop 3 _ _ (lt-ltb (a .length) _ (rw (m .total (c .before .if1 .left)) at (c .if2 .taken))))
+    let z = c .before .if1 .left in
+    sym (plan-passed (a .plan) _ (sym (m .number) ∙ z)
+    ∙ first-stop 3 _ _ (lt-ltb (a .length) (total (a .plan)) (omega (arith, c .if2 .taken, m .total z))))
 
 enum-told : tie.Need-enum-told
 enum-told c = search needs
@@ -64,36 +67,30 @@ job-number-requires-2 : tie.Need-job-number-requires-2
 job-number-requires-2 c κs = search needs
 
 returns-3 : tie.Need-returns-3
-unfolding badJob first
+unfolding badJob
 returns-3 c = let a = c .before .before .before .before .before .before .args in
     let m = c .before .before .before .before .before .measure .ensures in
     let z = c .before .before .before .if1 .left in
-    sym (before-job (a .plan) (a .phase) (a .length) _ _ (m .number) z (m .total z) (c .before .before .if2 .left)
-    ∙ rw (c .enum-told .given .1))
+    no-job (a .plan) (a .phase) (a .length) _ _ (m .number) z (m .total z) (c .before .before .if2 .left) (rw (c .enum-told .given .1))
 
 returns-4 : tie.Need-returns-4
-unfolding badJob first
+unfolding badJob
 returns-4 c = let a = c .before .before .before .before .before .before .args in
     let m = c .before .before .before .before .before .measure .ensures in
     let z = c .before .before .before .if1 .left in
-    sym (before-job (a .plan) (a .phase) (a .length) _ _ (m .number) z (m .total z) (c .before .before .if2 .left)
-    ∙ rw (c .enum-told2 .given .1))
+    no-job (a .plan) (a .phase) (a .length) _ _ (m .number) z (m .total z) (c .before .before .if2 .left) (rw (c .enum-told2 .given .1))
 
 returns-5 : tie.Need-returns-5
-unfolding badJob
 returns-5 c = let a = c .before .before .before .before .before .before .before .before .before .args in
     let m = c .before .before .before .before .before .before .before .before .measure .ensures in
     let z = c .before .before .before .before .before .before .if1 .left in
-    c .job-number .ensures ∙ sym (before-job (a .plan) (a .phase) (a .length) _ _ (m .number) z (m .total z) (c .before .before .before .before .before .if2 .left)
-    ∙ rw (c .before .before .before .phase .given .1, ← c .before .width-of .ensures))
+    writing-job (a .plan) (a .phase) (a .length) _ _ (m .number) z (m .total z) (c .before .before .before .before .before .if2 .left) _ _ _ _ (c .before .width-of .ensures) (c .before .before .before .phase .given .1) (c .job-number .ensures)
 
 returns-6 : tie.Need-returns-6
-unfolding badJob
 returns-6 c = let a = c .before .before .before .before .before .before .before .before .before .args in
     let m = c .before .before .before .before .before .before .before .before .measure .ensures in
     let z = c .before .before .before .before .before .before .if1 .left in
-    c .job-number2 .ensures ∙ sym (before-job (a .plan) (a .phase) (a .length) _ _ (m .number) z (m .total z) (c .before .before .before .before .before .if2 .left)
-    ∙ rw (c .before .before .before .phase2 .given .1, ← c .before .width-of2 .ensures))
+    cleaning-job (a .plan) (a .phase) (a .length) _ _ (m .number) z (m .total z) (c .before .before .before .before .before .if2 .left) _ _ _ _ (c .before .width-of2 .ensures) _ (c .before .before .before .phase2 .given .1) (c .job-number2 .ensures)
 
 pub device-number-spec : {M : Type 1} → statement M
 device-number-spec =

@@ -1,9 +1,9 @@
 -- `layout::span_of` meets its contract: the plan's row, then 3, then 4 for the unit, and where its parts lie.
 use native.Mathlib.Omega.{arith}
 use mathlib.Core.Path.{_≡_, sym, ap₂, _∙_}
-use Prim.Native.Nat.{_+_}
+use Prim.Native.Nat.{_+_, _<_}
 use Rattle.model.specs.Layout.{copyB, byte, offset, unitLength}
-use Rattle.model.proofs.RefusalLaws.{start-says, count-bounds, width-bounds}
+use Rattle.model.proofs.RefusalLaws.{start-says, count-bounds}
 use Rattle.layout.proofs.Laws.{no-plan, no-room, no-unit, spans, base-small}
 use borrow.Author.Needs.{needs}
 use Rattle.layout.proofs.span_of.Statement.{statement}
@@ -51,8 +51,8 @@ add-t11 c = let a = c .before .before .before .before .before .before .before .b
     let m = c .before .before .before .before .before .before .before .measure .ensures in
     let z = c .before .before .before .before .before .if1 .left in
     let ok = start-says (a .plan) (sym (m .number) ∙ z) in
-    let u = c .before .before .if3 .left in
-    record { fits = omega (arith, m .base z u, base-small (a .plan) ok (a .unit) (omega (arith, u)), count-bounds (a .plan) ok .1, c .length-of .ensures) }
+    let u : a .unit < a .plan .count = omega (arith, c .before .before .if3 .left) in
+    record { fits = omega (arith, m .base z u, base-small (a .plan) ok (a .unit) (omega arith), count-bounds (a .plan) ok .1, c .length-of .ensures) }
 
 cast-t12 : tie.Need-cast-t12
 cast-t12 c = search needs
@@ -68,7 +68,7 @@ returns-4 c = let a = c .before .before .before .before .before .before .before 
     let m = c .before .before .before .before .before .before .before .measure .ensures in
     let z = c .before .before .before .before .before .if1 .left in
     let w = c .before .width-of .ensures in
-    let begins = m .base z (c .before .before .if3 .left) in
+    let begins = m .base z (omega (arith, c .before .before .if3 .left)) in
     let long : c .length-of .result ≡ unitLength (a .plan) (a .unit) = omega (arith, w, c .length-of .ensures) in
     let second : 1 + c .before .width-of .result ≡ offset (a .plan) (a .unit) (byte copyB 0) = omega (arith, w) in
     spans (a .plan) (a .unit) (a .length) _ _ _ (m .number) z (m .total z) (omega (arith, c .before .before .before .before .if2 .left)) (omega (arith, c .before .before .if3 .left))

@@ -25,7 +25,7 @@ cast-pick : tie.Need-cast-pick
 cast-pick c = search needs
 
 shared-slice-read-pick : tie.Need-shared-slice-read-pick
-shared-slice-read-pick c = search needs
+shared-slice-read-pick c = omega (arith, c .before .before .before .before .before .before .before .before .pre .0, c .before .before .before .before .before .before .before .before .pre .1, c .before .before .before .before .before .before .if1 .taken)
 
 pick-requires : tie.Need-pick-requires
 pick-requires c κs = search needs
@@ -40,7 +40,7 @@ cast-pick-2 : tie.Need-cast-pick-2
 cast-pick-2 c = search needs
 
 shared-slice-read-pick-2 : tie.Need-shared-slice-read-pick-2
-shared-slice-read-pick-2 c = search needs
+shared-slice-read-pick-2 c = omega (arith, c .before .before .before .before .before .before .before .before .pre .0, c .before .before .before .before .before .before .before .before .pre .1, c .before .before .before .before .before .before .if1 .taken)
 
 pick-requires-2 : tie.Need-pick-requires-2
 pick-requires-2 c κs = search needs

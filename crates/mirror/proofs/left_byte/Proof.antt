@@ -1,5 +1,4 @@
 -- `mirror::left_byte` meets its contract: the new byte, or what a cut leaves of it.
-use mathlib.Core.Path.{_∙_}
 use borrow.Author.Needs.{needs}
 use Rattle.mirror.proofs.left_byte.Statement.{statement}
 use Rattle.mirror.proofs.left_byte.Tie as tie

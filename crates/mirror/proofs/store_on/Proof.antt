@@ -1,5 +1,4 @@
 -- `mirror::store_on` meets its contract, by the phase's case.
-use mathlib.Core.Path.{refl}
 use denote.Ref.{now}
 use Rattle.model.specs.Calls.{next}
 use Rattle.mirror.proofs.Picks.{idle-stores, by-case}

@@ -29,8 +29,9 @@ same-length : tie.Need-same-length Inv-loop μ-loop
 same-length c = search needs
 
 returns : tie.Need-returns Inv-loop μ-loop
-returns c = let l = c .before .before .before .before .before .before .loop in
-    sym (row-stops _ _ _ _ (c .before .before .before .before .before .loop-test .taken) _ _ _ (c .before .before .before .advance .ensures) (c .if1 .taken)) ∙ l .inv .0
+returns c = let a = c .before .before .before .before .before .before .before .before .before .args in
+    let l = c .before .before .before .before .before .before .loop in
+    sym (row-stops (a .count) (l .made) (parts (a .plan) (now (a .payload)) (l .phase) (l .stores)) (l .image) (c .before .before .before .before .before .loop-test .taken) _ _ _ (c .before .before .before .advance .ensures) (c .if1 .taken)) ∙ l .inv .0
 
 add-made : tie.Need-add-made Inv-loop μ-loop
 add-made c = search needs
@@ -39,8 +40,9 @@ loop-less : tie.Need-loop-less Inv-loop μ-loop
 loop-less c = search needs
 
 loop-again : tie.Need-loop-again Inv-loop μ-loop
-loop-again c = let l = c .before .before .before .before .before .before .loop in
-    (sym (row-goes-on _ _ _ _ (c .before .before .before .before .before .loop-test .taken) _ _ _ (c .before .before .before .advance .ensures) (c .if1 .left)) ∙ l .inv .0, omega arith, search needs)
+loop-again c = let a = c .before .before .before .before .before .before .before .before .before .args in
+    let l = c .before .before .before .before .before .before .loop in
+    (sym (row-goes-on (a .count) (l .made) (parts (a .plan) (now (a .payload)) (l .phase) (l .stores)) (l .image) (c .before .before .before .before .before .loop-test .taken) _ _ _ (c .before .before .before .advance .ensures) (c .if1 .left)) ∙ l .inv .0, omega arith, search needs)
 
 same-length-2 : tie.Need-same-length-2 Inv-loop μ-loop
 same-length-2 c = search needs

@@ -12,7 +12,7 @@ read-number-requires : tie.Need-read-number-requires
 read-number-requires c κs = search needs
 
 slice-aggregate-result : tie.Need-slice-aggregate-result
-slice-aggregate-result c = search needs
+slice-aggregate-result c = omega arith
 
 returns : tie.Need-returns
 unfolding read
