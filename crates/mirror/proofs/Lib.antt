@@ -1,4 +1,3 @@
-pub mod Laws
 pub mod Picks
 pub mod Torn
 pub mod Part

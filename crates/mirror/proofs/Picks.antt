@@ -1,4 +1,4 @@
--- The store that the code picks, and what becomes of it.
+-- What becomes of the store that was picked.
 use Prim.Native.Nat.{ℕ, _+_, _<_, _≤_}
 use mathlib.Core.Path.{_≡_, refl, ap, sym, _∙_}
 use mathlib.Core.List.{List, [], _∷_, _++_}
@@ -8,11 +8,11 @@ use native.Mathlib.Omega.{arith}
 use lib.Dec.{eqb, ltb, leb}
 use lib.ListN.{length, getD, set}
 use borrow.Author.Tests.{ne-eqb, le-ltb, lt-leb, le-leb}
-use Rattle.mirror.specs.declared.Choice.{Choice}
+use Rattle.choice.specs.declared.Choice.{Choice}
 use Rattle.mirror.specs.declared.Ended.{Ended}
-use Rattle.mirror.specs.Picked.{At, Picked}
+use Rattle.choice.specs.Picked.{At, Picked}
 use Rattle.mirror.specs.Ends.{leaves, Stores, Ends}
-use Rattle.mirror.proofs.Laws.{span-base, span-width}
+use Rattle.choice.proofs.Laws.{span-base, span-width}
 use Rattle.model.specs.declared.Plan.{Plan}
 use Rattle.model.specs.declared.Phase.{Phase}
 use Rattle.model.specs.Layout.{copyA, copyB, Cell, marker, byte, width, offset, base, total, place, get, put}
@@ -23,37 +23,8 @@ use Rattle.model.specs.Calls.{jobOf, viewOf, next}
 use Rattle.model.proofs.Compare.{equal, differ, same}
 use Rattle.model.proofs.RefusalLaws.{first-skip, first-stop, first-none, plan-passed}
 use Rattle.layout.specs.declared.Span.{Span}
-use Rattle.layout.specs.Spans.{Spans, spanOf}
+use Rattle.layout.specs.Spans.{Spans}
 use Rattle.layout.proofs.Laws.{plan-fine}
-
-module _ (span : Span) (f : ℕ → ℕ) (made : ℕ) (o : Plan → ℕ → Option Store) (r : Choice) (a x : ℕ) where
-  module _ (i : span .base + a < span .end) (s : (p : Plan) (u : ℕ) → span ≡ spanOf p u → At p u (o p u) a x) where
-    pub picked-more : made + 1 < f (span .width) → r ≡ record { at = a; byte = x; left = 2 } → Picked span f made o r
-    picked-more h is =
-        rw is
-        (record {
-          left = record { none = λ z. absurd (omega arith); last = λ z. absurd (omega arith); more = λ _ _. h };
-          inside = λ _. i;
-          store = λ _. s;
-        })
-
-    pub picked-last : made + 1 ≡ f (span .width) → r ≡ record { at = a; byte = x; left = 1 } → Picked span f made o r
-    picked-last h is =
-        rw is
-        (record {
-          left = record { none = λ z. absurd (omega arith); last = λ _. h; more = λ _ z. absurd (z refl) };
-          inside = λ _. i;
-          store = λ _. s;
-        })
-
-  pub picked-none : f (span .width) ≤ made → r ≡ record { at = a; byte = x; left = 0 } → Picked span f made o r
-  picked-none h is =
-      rw is
-      (record {
-        left = record { none = λ _. h; last = λ z. absurd (omega arith); more = λ z _. absurd (z refl) };
-        inside = λ z. absurd (z refl);
-        store = λ z. absurd (z refl);
-      })
 
 -- ---- a picked store is the model's
 torn-cell : (p : Plan) (u : ℕ) (c : Cell) (old new m : ℕ) → cond (eqb (offset p u c) 0) (torn old new m) m ≡ tornCell m c old new

@@ -1,88 +1,20 @@
-// The mirroring rules in code: the store that comes next in a write or a cleanup, and how it ends, whole or torn.
+// How the next store of a write or a cleanup ends, whole or torn.
 ghost use mathlib.Core.Path.{_≡_};
 ghost use mathlib.Core.Bool.{cond};
 ghost use Prim.Native.Nat.{_+_, _<_, _≤_};
 ghost use lib.Dec.{eqb};
 ghost use lib.ListN.{length, set, getD};
 ghost use Rattle.model.specs.Marker.{torn};
-ghost use Rattle.layout.specs.Spans.{Sound};
-ghost use Rattle.mirror.specs.Picked.{Writes, Cleans};
 ghost use Rattle.mirror.specs.Ends.{ended, leaves, Stores, WriteEnds, CleanupEnds};
+use choice::clean_choice;
+use choice::write_choice;
 use layout::Span;
 use layout::device_number;
 use layout::span_of;
 use model::Direction;
-use model::Marker;
 use model::Phase;
 use model::Plan;
 use model::refusals::BAD_JOB;
-
-// The store that comes next in a unit that was looked up: the offset in the unit's span, the byte, and how many stores of the job
-// were left, 2 for more than 1.
-struct Choice {
-    at: u32,
-    byte: u8,
-    left: u8,
-}
-
-fn pick(at: u32, byte: u8, left: u8) -> Choice
-    ensures { λ r. ⌜ r ≡ record { at = at; byte = byte; left = left } ⌝ }
-{
-    Choice {
-        at: at,
-        byte: byte,
-        left: left,
-    }
-}
-
-// The next store of a write: marker A, copy A, marker B, copy B, marker OK. What picks the store tells also whether it is the
-// last, or one too many.
-fn write_choice(span: Span, payload: &[u8], made: u16) -> Choice
-    requires { ⌜ Sound span × (length (now payload) ≡ 256) ⌝ }
-    ensures { λ r. ⌜ Writes span (now (payload .entry)) made r ⌝ }
-{
-    let width = span.width;
-    let n = made as u32;
-    if n <= width {
-        if n == 0 {
-            return pick(0, Marker::A, 2);
-        }
-        let i = n - 1;
-        return pick(span.a + i, payload[i as usize], 2);
-    }
-    if n <= 2 * width + 1 {
-        if n == width + 1 {
-            return pick(0, Marker::B, 2);
-        }
-        let j = n - (width + 2);
-        return pick(span.b + j, payload[j as usize], 2);
-    }
-    if n == 2 * width + 2 {
-        return pick(0, Marker::OK, 1);
-    }
-    pick(0, 0, 0)
-}
-
-// The next store of a cleanup: a byte of the good copy as it is now, or marker OK.
-fn clean_choice(span: Span, image: &[u8], made: u16, direction: Direction) -> Choice
-    requires { ⌜ Sound span × (span .end ≤ length (now image)) ⌝ }
-    ensures { λ r. ⌜ Cleans span (now (image .entry)) direction made r ⌝ }
-{
-    let width = span.width;
-    let n = made as u32;
-    if n < width {
-        let a = span.a + n;
-        let b = span.b + n;
-        return match direction {
-            Direction::AToB => pick(b, image[(span.base + a) as usize], 2),
-            Direction::BToA => pick(a, image[(span.base + b) as usize], 2),
-        };
-    }
-    if n == width {
-        return pick(0, Marker::OK, 1);
-    }
-    pick(0, 0, 0)
-}
 
 // The storing routine: it is lent the writable span of its own unit, from the marker on, and nothing else.
 fn put(span: &mut [u8], at: usize, byte: u8)

@@ -5,7 +5,7 @@ use mathlib.Core.Path.{_≡_}
 use mathlib.Core.List.{List}
 use mathlib.Core.Option.{Option, some}
 use lib.ListN.{getElem?}
-use Rattle.mirror.specs.declared.Choice.{Choice}
+use Rattle.choice.specs.declared.Choice.{Choice}
 use Rattle.model.specs.declared.Direction.{Direction}
 use Rattle.model.specs.declared.Plan.{Plan}
 use Rattle.model.specs.Layout.{Cell, offset}

@@ -1,13 +1,13 @@
--- `mirror::clean_choice` meets its contract: a byte of the good copy, the marker at the end, or nothing past it.
+-- `choice::clean_choice` meets its contract: a byte of the good copy, the marker at the end, or nothing past it.
 use native.Mathlib.Omega.{arith}
 use mathlib.Core.Path.{refl}
 use denote.Ref.{now}
 use Rattle.model.specs.Layout.{copyA, copyB, marker, byte}
-use Rattle.mirror.proofs.Laws.{span-width, span-A, span-B, cleanup-A-to-B, cleanup-B-to-A, cleanup-OK}
-use Rattle.mirror.proofs.Picks.{picked-more, picked-last, picked-none}
+use Rattle.choice.proofs.Laws.{span-width, span-A, span-B, cleanup-A-to-B, cleanup-B-to-A, cleanup-OK}
+use Rattle.choice.proofs.Picks.{picked-more, picked-last, picked-none}
 use borrow.Author.Needs.{needs}
-use Rattle.mirror.proofs.clean_choice.Statement.{statement}
-use Rattle.mirror.proofs.clean_choice.Tie as tie
+use Rattle.choice.proofs.clean_choice.Statement.{statement}
+use Rattle.choice.proofs.clean_choice.Tie as tie
 
 add-a : tie.Need-add-a
 add-a c = search needs

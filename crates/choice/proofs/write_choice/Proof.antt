@@ -1,13 +1,13 @@
--- `mirror::write_choice` meets its contract: each test on the stores made picks one place of the write's list, and tells how many are left.
+-- `choice::write_choice` meets its contract: each test on the stores made picks one place of the write's list, and tells how many are left.
 use native.Mathlib.Omega.{arith}
 use mathlib.Core.Path.{refl}
 use denote.Ref.{now}
 use Rattle.model.specs.Layout.{copyA, copyB, marker, byte}
-use Rattle.mirror.proofs.Laws.{span-width, span-A, span-B, write-A, write-to-A, write-B, write-to-B, write-OK}
-use Rattle.mirror.proofs.Picks.{picked-more, picked-last, picked-none}
+use Rattle.choice.proofs.Laws.{span-width, span-A, span-B, write-A, write-to-A, write-B, write-to-B, write-OK}
+use Rattle.choice.proofs.Picks.{picked-more, picked-last, picked-none}
 use borrow.Author.Needs.{needs}
-use Rattle.mirror.proofs.write_choice.Statement.{statement}
-use Rattle.mirror.proofs.write_choice.Tie as tie
+use Rattle.choice.proofs.write_choice.Statement.{statement}
+use Rattle.choice.proofs.write_choice.Tie as tie
 
 pick-requires : tie.Need-pick-requires
 pick-requires c κs = search needs

@@ -1,0 +1,76 @@
+// Which store comes next in a write or a cleanup: where in its unit, with which byte, and how many were left.
+ghost use mathlib.Core.Path.{_≡_};
+ghost use Prim.Native.Nat.{_≤_};
+ghost use lib.ListN.{length};
+ghost use Rattle.layout.specs.Spans.{Sound};
+ghost use Rattle.choice.specs.Picked.{Writes, Cleans};
+use layout::Span;
+use model::Direction;
+use model::Marker;
+
+// The store that comes next in a unit that was looked up: the offset in the unit's span, the byte, and how many stores of the job
+// were left, 2 for more than 1.
+pub struct Choice {
+    pub at: u32,
+    pub byte: u8,
+    pub left: u8,
+}
+
+fn pick(at: u32, byte: u8, left: u8) -> Choice
+    ensures { λ r. ⌜ r ≡ record { at = at; byte = byte; left = left } ⌝ }
+{
+    Choice {
+        at: at,
+        byte: byte,
+        left: left,
+    }
+}
+
+// The next store of a write: marker A, copy A, marker B, copy B, marker OK. What picks the store tells also whether it is the
+// last, or one too many.
+pub fn write_choice(span: Span, payload: &[u8], made: u16) -> Choice
+    requires { ⌜ Sound span × (length (now payload) ≡ 256) ⌝ }
+    ensures { λ r. ⌜ Writes span (now (payload .entry)) made r ⌝ }
+{
+    let width = span.width;
+    let n = made as u32;
+    if n <= width {
+        if n == 0 {
+            return pick(0, Marker::A, 2);
+        }
+        let i = n - 1;
+        return pick(span.a + i, payload[i as usize], 2);
+    }
+    if n <= 2 * width + 1 {
+        if n == width + 1 {
+            return pick(0, Marker::B, 2);
+        }
+        let j = n - (width + 2);
+        return pick(span.b + j, payload[j as usize], 2);
+    }
+    if n == 2 * width + 2 {
+        return pick(0, Marker::OK, 1);
+    }
+    pick(0, 0, 0)
+}
+
+// The next store of a cleanup: a byte of the good copy as it is now, or marker OK.
+pub fn clean_choice(span: Span, image: &[u8], made: u16, direction: Direction) -> Choice
+    requires { ⌜ Sound span × (span .end ≤ length (now image)) ⌝ }
+    ensures { λ r. ⌜ Cleans span (now (image .entry)) direction made r ⌝ }
+{
+    let width = span.width;
+    let n = made as u32;
+    if n < width {
+        let a = span.a + n;
+        let b = span.b + n;
+        return match direction {
+            Direction::AToB => pick(b, image[(span.base + a) as usize], 2),
+            Direction::BToA => pick(a, image[(span.base + b) as usize], 2),
+        };
+    }
+    if n == width {
+        return pick(0, Marker::OK, 1);
+    }
+    pick(0, 0, 0)
+}
