@@ -55,7 +55,7 @@ fn left_byte(at: u32, old: u8, new: u8, end: End) -> u8
 }
 
 // Ends the store of a byte at an offset of a unit; the storing routine is lent the unit's span alone.
-fn end_store(image: &mut [u8], span: Span, at: u32, byte: u8, end: End)
+fn store_at(image: &mut [u8], span: Span, at: u32, byte: u8, end: End)
     requires { ⌜ (span .base + at < span .end) × (span .end ≤ length (now image)) ⌝ }
     ensures { λ _. ⌜ now (image .exit) ≡ set (now (image .entry)) (span .base + at)
         (leaves (ended end) at (getD (now (image .entry)) (span .base + at) 0) byte) ⌝ }
@@ -105,7 +105,7 @@ pub fn write_on(
     if left == 0 {
         return refused(BAD_JOB);
     }
-    end_store(&mut image[..], span, choice.at, choice.byte, end);
+    store_at(&mut image[..], span, choice.at, choice.byte, end);
     Ended {
         number: 0,
         left: left,
@@ -133,7 +133,7 @@ pub fn clean_on(
     if left == 0 {
         return refused(BAD_JOB);
     }
-    end_store(&mut image[..], span, choice.at, choice.byte, end);
+    store_at(&mut image[..], span, choice.at, choice.byte, end);
     Ended {
         number: 0,
         left: left,

@@ -1,4 +1,4 @@
--- `mirror::end_store` meets its contract: a store in the span is a store in the image.
+-- `mirror::store_at` meets its contract: a store in the span is a store in the image.
 use native.Mathlib.Omega.{arith}
 use mathlib.Core.Path.{ap, _∙_}
 use mathlib.Core.List.{List, _++_}
@@ -7,8 +7,8 @@ use lib.ListN.{take, drop, set}
 use denote.Ref.{now}
 use Rattle.mirror.proofs.Part.{set-part}
 use borrow.Author.Needs.{needs}
-use Rattle.mirror.proofs.end_store.Statement.{statement}
-use Rattle.mirror.proofs.end_store.Tie as tie
+use Rattle.mirror.proofs.store_at.Statement.{statement}
+use Rattle.mirror.proofs.store_at.Tie as tie
 
 cast-first : tie.Need-cast-first
 cast-first c = search needs
@@ -49,8 +49,8 @@ returns c = let a = c .before .before .before .before .before .before .before .b
     ∙ set-part xs (s .base) size (a .at) _ (omega (arith, c .before .before .before .before .before .before .before .before .before .pre)) (omega (arith, c .before .before .before .before .before .before .before .before .before .pre))
     ∙ ap (set xs (s .base + a .at)) (c .before .before .before .before .left-byte .ensures)
 
-pub end-store-spec : {M : Type 1} → statement M
-end-store-spec =
+pub store-at-spec : {M : Type 1} → statement M
+store-at-spec =
     tie.close
     (tie.spec
     cast-first
