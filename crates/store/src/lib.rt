@@ -239,7 +239,7 @@ impl Device {
         let plan = self.plan;
         let payload = self.payload;
         let phase = self.phase;
-        let torn = self.stores;
+        let count = self.stores;
         let number = store_on(plan, &payload, phase, &mut image[..], End::Torn(m));
         if number != 0 {
             return Answer {
@@ -254,7 +254,7 @@ impl Device {
                 plan: plan,
                 payload: zeros,
                 phase: Phase::Cold,
-                stores: torn,
+                stores: count,
             },
         }
     }
