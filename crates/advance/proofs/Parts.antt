@@ -19,10 +19,9 @@ use Rattle.model.proofs.RefusalLaws.{first-skip, first-stop, first-none, first-
 use Rattle.model.proofs.LayoutLaws.{length-stored}
 use Rattle.model.proofs.StoreLaws.{write-goes-on, write-ends, cleanup-goes-on, cleanup-ends}
 use Rattle.layout.proofs.Laws.{Room, room}
-use Rattle.mirror.specs.Ends.{Stores, Ends}
-use Rattle.mirror.specs.declared.Ended.{Ended}
+use Rattle.mirror.specs.Ends.{Stores}
 use Rattle.advance.specs.declared.Advanced.{Advanced}
-use Rattle.advance.specs.Advances.{parts, Advances}
+use Rattle.advance.specs.Advances.{Advances}
 
 module _ (p : Plan) (payload : List ℕ) (phase : Phase) (earlier : ℕ) (image : List ℕ) where
   abbrev idle : Bool
