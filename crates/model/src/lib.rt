@@ -1,7 +1,7 @@
 // The types that the save store's meaning speaks of: the plan, the phase, the marker, inspect's answer.
 // The meaning stands in specs/; specs/PowerCut.antt has the power-cut theorem's statement.
 ghost use mathlib.Core.Path.{_≡_};
-ghost use Rattle.model.specs.Marker.{meaning, isForeign};
+ghost use Rattle.model.specs.Marker.{meaning, isForeign, direction};
 
 pub mod refusals;
 
@@ -81,5 +81,19 @@ impl Marker {
             Marker::Corrupted => false,
             Marker::Foreign => true,
         }
+    }
+}
+
+// The way a cleanup copies, by the marker that it finds.
+pub fn direction_of(marker: u8) -> Direction
+    ensures { λ r. ⌜ r ≡ direction marker ⌝ }
+{
+    let meaning = Marker::classify(marker);
+    match meaning {
+        Marker::Clean => Direction::AToB,
+        Marker::WritingToA => Direction::BToA,
+        Marker::WritingToB => Direction::AToB,
+        Marker::Corrupted => Direction::AToB,
+        Marker::Foreign => Direction::AToB,
     }
 }

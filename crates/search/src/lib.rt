@@ -5,30 +5,15 @@ ghost use Prim.Native.Nat.{_≤_};
 ghost use lib.ListN.{length};
 ghost use Rattle.model.specs.Layout.{marker, total, get};
 ghost use Rattle.model.proofs.RefusalLaws.{PlanOk};
-ghost use Rattle.model.specs.Marker.{direction};
 ghost use Rattle.model.specs.Refusals.{anyForeign};
 ghost use Rattle.model.specs.Calls.{cleanupFrom};
 ghost use Rattle.search.specs.Found.{lowestFrom, found};
 use layout::base_of;
 use layout::unit_length;
-use model::Direction;
 use model::Marker;
 use model::Phase;
 use model::Plan;
-
-// The way a cleanup copies, by the marker that it finds.
-fn direction_of(marker: u8) -> Direction
-    ensures { λ r. ⌜ r ≡ direction marker ⌝ }
-{
-    let meaning = Marker::classify(marker);
-    match meaning {
-        Marker::Clean => Direction::AToB,
-        Marker::WritingToA => Direction::BToA,
-        Marker::WritingToB => Direction::AToB,
-        Marker::Corrupted => Direction::AToB,
-        Marker::Foreign => Direction::AToB,
-    }
-}
+use model::direction_of;
 
 // What the search found: a unit whose marker isn't OK, with that marker, or nothing.
 pub enum Found {

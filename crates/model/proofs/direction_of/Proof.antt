@@ -1,9 +1,9 @@
--- `search::direction_of` meets its contract, by the marker's meaning.
+-- `model::direction_of` meets its contract, by the marker's meaning.
 use mathlib.Core.Path.{sym, ap, _∙_}
 use borrow.Author.Needs.{needs}
 use Rattle.model.specs.Marker.{way, direction}
-use Rattle.search.proofs.direction_of.Statement.{statement}
-use Rattle.search.proofs.direction_of.Tie as tie
+use Rattle.model.proofs.direction_of.Statement.{statement}
+use Rattle.model.proofs.direction_of.Tie as tie
 
 classify-requires : tie.Need-classify-requires
 classify-requires c κs = search needs
