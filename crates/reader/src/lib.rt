@@ -49,8 +49,8 @@ pub fn next<'a>(r: Reader<'a>) -> Read
 }
 
 // The reader's next line, for callers that have the text and the offset.
-pub fn read_line(text: &[u8], at: usize) -> Read
-    ensures { λ r. ⌜ r ≡ readAt (now (text .entry)) at ⌝ }
+pub fn read_line(text: &[u8], from: usize) -> Read
+    ensures { λ r. ⌜ r ≡ readAt (now (text .entry)) from ⌝ }
 {
-    next(new(text, at))
+    next(new(text, from))
 }
