@@ -4,15 +4,17 @@
 use brake::drive;
 use io::print_decimal;
 use io::print_hex;
+use layout::base_of;
 use libc::STDIN_FILENO;
 use libc::STDOUT_FILENO;
 use model::Inspection;
 use model::Plan;
+use script::Form;
+use script::Line;
 use store::Answer;
 use store::Device;
 use token::LOST;
 ghost use mathlib.Core.Path.{_≡_};
-ghost use Prim.Native.Nat.{_≤_};
 ghost use lib.ListN.{length};
 
 // The image of the widest plan: eight units of 256 bytes, twice, and their markers.
@@ -40,9 +42,9 @@ fn say_byte(byte: u8) {
     print_hex(STDOUT_FILENO, byte as u64, 2);
 }
 
-// Each byte in hexadecimal, after a space; the first after a byte of the caller's.
-fn say_bytes(first: u8, bytes: &[u8]) {
-    let mut before = first;
+// Each byte in hexadecimal: the first after a bracket, the others after a space.
+fn say_bytes(bytes: &[u8]) {
+    let mut before = b'(';
     let mut i: usize = 0;
     while i < bytes.len() {
         io::write_all(STDOUT_FILENO, &[before]);
@@ -52,91 +54,46 @@ fn say_bytes(first: u8, bytes: &[u8]) {
     }
 }
 
-// Whether a line begins with this word.
-fn begins(line: &[u8], word: &[u8]) -> bool {
-    token::word(line, 0, word) != LOST
-}
-
-// The number after a word.
-fn number_after(line: &[u8], word: &[u8]) -> u16 {
-    let item = token::number(line, token::word(line, 0, word));
-    item.value as u16
-}
-
-// `(plan (W ..))`, of at most eight widths.
-fn plan_of(line: &[u8]) -> Plan {
-    let mut widths = [0u16; 8];
-    let mut at = token::word(line, 0, b"(plan (");
-    let mut i: usize = 0;
-    while i < 8 {
-        let item = token::number(line, at);
-        if item.next == LOST {
-            return Plan {
-                count: i as u16,
-                widths: widths,
-            };
-        }
-        widths[i] = item.value as u16;
-        at = token::eat(line, item.next, b' ');
-        i = i + 1;
+// `(read U)`
+fn say_read(line: &[u8], device: Device, image: &[u8]) {
+    let item = token::number(line, token::word(line, 0, b"(read "));
+    if item.next == LOST {
+        return;
     }
-    Plan {
-        count: 8,
-        widths: widths,
+    let unit = item.value as u16;
+    let number = device.read_number(image, unit);
+    if number != 0 {
+        say_line(b"read", number);
+        return;
+    }
+    io::write_all(STDOUT_FILENO, b"read 0 ");
+    say_bytes(device.read(image, unit));
+    end_word(b")");
+}
+
+fn say_inspection(inspection: Inspection) {
+    match inspection {
+        Inspection::Refused(number) => say_line(b"inspect refused", number),
+        Inspection::Suspect(unit) => say_line(b"inspect unit", unit),
+        Inspection::AllOk => end_word(b"inspect none"),
     }
 }
 
-// The bytes of a list into a buffer, as many as there are.
-fn bytes_into(line: &[u8], from: usize, out: &mut [u8]) -> usize
-    ensures { λ r. ⌜ (r ≤ length (now (out .exit))) × (length (now (out .exit)) ≡ length (now (out .entry))) ⌝ }
-{
-    let mut at = from;
-    let mut i: usize = 0;
-    while i < out.len() {
-        let item = token::hex(line, at);
-        if item.next == LOST {
-            return i;
-        }
-        out[i] = item.value as u8;
-        at = token::eat(line, item.next, b' ');
-        i = i + 1;
+// `(inspect)`
+fn say_inspect(line: &[u8], device: Device, image: &[u8]) {
+    if token::word(line, 0, b"(inspect)") == LOST {
+        return;
     }
-    i
-}
-
-// `(write U (HH ..))`
-fn write(line: &[u8], device: Device, image: &[u8]) -> Answer {
-    let unit = token::number(line, token::word(line, 0, b"(write "));
-    let from = token::word(line, unit.next, b" (");
-    let mut payload = [0u8; 256];
-    let count = bytes_into(line, from, &mut payload);
-    device.begin(image, unit.value as u16, &payload[..count])
-}
-
-// `(cut HH)`
-fn cut(line: &[u8], device: Device, image: &mut [u8]) -> Answer
-    ensures { λ _. ⌜ length (now (image .exit)) ≡ length (now (image .entry)) ⌝ }
-{
-    let byte = token::hex(line, token::word(line, 0, b"(cut "));
-    device.cut(&mut image[..], byte.value as u8)
-}
-
-// `(set I HH)`
-fn set(line: &[u8], image: &mut [u8])
-    ensures { λ _. ⌜ length (now (image .exit)) ≡ length (now (image .entry)) ⌝ }
-{
-    let index = token::number(line, token::word(line, 0, b"(set "));
-    let byte = token::hex(line, token::eat(line, index.next, b' '));
-    let i = index.value;
-    if i < image.len() {
-        image[i] = byte.value as u8;
-    }
+    say_inspection(device.inspect(image));
 }
 
 // `(drive L R)`
 fn say_drive(line: &[u8]) {
     let level = token::number(line, token::word(line, 0, b"(drive "));
     let rate = token::number(line, token::eat(line, level.next, b' '));
+    if rate.next == LOST {
+        return;
+    }
     let driven = drive(level.value as u16, rate.value as u16);
     say(b"drive", driven.number);
     say_line(b"", driven.drive);
@@ -154,8 +111,8 @@ fn say_level(level: u16) {
     end_word(b"");
 }
 
-// `(drives)`
-fn say_drives() {
+// All levels.
+fn say_levels() {
     let mut level: u16 = 1;
     while level <= 20 {
         say_level(level);
@@ -163,118 +120,48 @@ fn say_drives() {
     }
 }
 
-// `(read U)`
-fn say_read(line: &[u8], device: Device, image: &[u8]) {
-    let unit = number_after(line, b"(read ");
-    let number = device.read_number(image, unit);
-    if number != 0 {
-        say_line(b"read", number);
+// `(drives)`
+fn say_drives(line: &[u8]) {
+    if token::word(line, 0, b"(drives)") == LOST {
         return;
     }
-    io::write_all(STDOUT_FILENO, b"read 0 ");
-    say_bytes(b'(', device.read(image, unit));
-    io::write_all(STDOUT_FILENO, b")\n");
+    say_levels();
 }
 
-// `(inspect)`
-fn say_inspection(inspection: Inspection) {
-    match inspection {
-        Inspection::Refused(number) => say_line(b"inspect refused", number),
-        Inspection::Suspect(unit) => say_line(b"inspect unit", unit),
-        Inspection::AllOk => end_word(b"inspect none"),
-    }
-}
-
-fn say_part(name: &[u8], bytes: &[u8]) {
-    io::write_all(STDOUT_FILENO, name);
-    say_bytes(b' ', bytes);
-    io::write_all(STDOUT_FILENO, b")");
-}
-
-fn say_unit(unit: u16, log: &[u8], a: &[u8], b: &[u8]) {
-    say(b"(unit", unit);
-    say_part(b" (log", log);
-    say_part(b" (a", a);
-    say_part(b" (b", b);
-    end_word(b")");
-}
-
-// A unit's marker and two copies.
-fn size_by(width: u16) -> usize
-    ensures { λ r. ⌜ r ≤ 131071 ⌝ }
+// `(set I HH)`
+fn set(line: &[u8], image: &mut [u8])
+    ensures { λ _. ⌜ length (now (image .exit)) ≡ length (now (image .entry)) ⌝ }
 {
-    1 + 2 * (width as usize)
+    let index = token::number(line, token::word(line, 0, b"(set "));
+    let byte = token::hex(line, token::eat(line, index.next, b' '));
+    if byte.next == LOST {
+        return;
+    }
+    let i = index.value;
+    if i < image.len() {
+        image[i] = byte.value as u8;
+    }
 }
 
-// The bytes of a unit, 0 where the plan has none.
-fn size_of(plan: Plan, unit: usize) -> usize
-    ensures { λ r. ⌜ r ≤ 131071 ⌝ }
+// A line that is none of the bench's forms: each of these passes over what isn't its own.
+fn look(line: &[u8], device: Device, image: &mut [u8])
+    ensures { λ _. ⌜ length (now (image .exit)) ≡ length (now (image .entry)) ⌝ }
 {
-    let widths = plan.widths;
-    if plan.count as usize <= unit {
-        return 0;
-    }
-    if 8 <= unit {
-        return 0;
-    }
-    size_by(widths[unit])
+    say_read(line, device, &image[..]);
+    say_inspect(line, device, &image[..]);
+    say_drive(line);
+    say_drives(line);
+    set(line, &mut image[..]);
 }
 
-// The bytes of all units.
-fn total_of(plan: Plan) -> usize {
-    let mut total: usize = 0;
-    let mut unit: usize = 0;
-    while unit < 8 {
-        total = total + size_of(plan, unit);
-        unit = unit + 1;
+// Begins a write of the bytes that a line lists.
+fn write(line: &[u8], device: Device, image: &[u8], unit: u16, at: usize, count: usize) -> Answer {
+    let mut payload = [0u8; 256];
+    script::bytes_into(line, at, count, &mut payload);
+    if 256 < count {
+        return device.begin(image, unit, &payload);
     }
-    total
-}
-
-// `(show)`
-fn show(plan: Plan, image: &[u8]) {
-    let mut base: usize = 0;
-    let mut unit: u16 = 0;
-    while unit < plan.count {
-        let size = size_of(plan, unit as usize);
-        if size == 0 {
-            return;
-        }
-        if image.len() - base < size {
-            return;
-        }
-        let a = base + 1;
-        let b = a + size / 2;
-        let end = base + size;
-        say_unit(unit, &image[base..a], &image[a..b], &image[b..end]);
-        base = end;
-        unit = unit + 1;
-    }
-}
-
-// The forms that only look. Any other line prints `bad`.
-fn look(line: &[u8], plan: Plan, device: Device, image: &[u8]) {
-    if begins(line, b"(read ") {
-        say_read(line, device, image);
-        return;
-    }
-    if begins(line, b"(inspect)") {
-        say_inspection(device.inspect(image));
-        return;
-    }
-    if begins(line, b"(drive ") {
-        say_drive(line);
-        return;
-    }
-    if begins(line, b"(drives)") {
-        say_drives();
-        return;
-    }
-    if begins(line, b"(show)") {
-        show(plan, image);
-        return;
-    }
-    end_word(b"bad");
+    device.begin(image, unit, &payload[..count])
 }
 
 // Prints a call's word and number, and hands its device on.
@@ -283,38 +170,41 @@ fn told(word: &[u8], answer: Answer) -> Device {
     answer.device
 }
 
-// Plays a line after the plan's.
-fn play(line: &[u8], plan: Plan, device: Device, image: &mut [u8]) -> Device
+// One of the bench's forms after the plan's. The bench itself plays `show`.
+fn play(form: Form, line: &[u8], device: Device, image: &mut [u8]) -> Device
     ensures { λ _. ⌜ length (now (image .exit)) ≡ length (now (image .entry)) ⌝ }
 {
-    if begins(line, b"(write ") {
-        return told(b"write", write(line, device, &image[..]));
+    match form {
+        Form::Plan { at: _, count: _ } => device,
+        Form::Write { unit, at, count } => told(
+            b"write",
+            write(line, device, &image[..], unit, at, count),
+        ),
+        Form::Step(count) => told(b"step", device.steps(&mut image[..], count)),
+        Form::Cut(byte) => told(b"cut", device.cut(&mut image[..], byte)),
+        Form::Wake => told(b"wake", device.wake(&image[..])),
+        Form::Show => device,
     }
-    if begins(line, b"(step ") {
-        let count = number_after(line, b"(step ");
-        return told(b"step", device.steps(&mut image[..], count));
-    }
-    if begins(line, b"(cut ") {
-        return told(b"cut", cut(line, device, &mut image[..]));
-    }
-    if begins(line, b"(wake)") {
-        return told(b"wake", device.wake(&image[..]));
-    }
-    if begins(line, b"(set ") {
-        set(line, &mut image[..]);
+}
+
+// Plays a line after the plan's.
+fn play_line(line: &[u8], device: Device, image: &mut [u8]) -> Device
+    ensures { λ _. ⌜ length (now (image .exit)) ≡ length (now (image .entry)) ⌝ }
+{
+    let Line::Is(form) = script::form_of(line) else {
+        look(line, device, &mut image[..]);
         return device;
-    }
-    look(line, plan, device, &image[..]);
-    device
+    };
+    play(form, line, device, &mut image[..])
 }
 
 // Plays the lines from an offset on.
-fn play_lines(text: &[u8], from: usize, plan: Plan, opened: Device, image: &mut [u8]) {
+fn play_lines(text: &[u8], from: usize, opened: Device, image: &mut [u8]) {
     let mut at = from;
     let mut device = opened;
     while at < text.len() {
         let end = bytes::scan::find(text, at, text.len(), b'\n');
-        device = play(&text[at..end], plan, device, &mut image[..]);
+        device = play_line(&text[at..end], device, &mut image[..]);
         at = end + 1;
     }
 }
@@ -324,13 +214,34 @@ fn run(text: &[u8], from: usize, plan: Plan, image: &mut [u8]) {
     let started = Device::start(plan);
     let formatted = started.device.format(&mut image[..]);
     say_line(b"plan", formatted.number);
-    play_lines(text, from, plan, formatted.device, &mut image[..]);
+    play_lines(text, from, formatted.device, &mut image[..]);
+}
+
+// The plan that a line has; one without units if it has none.
+fn plan_of(line: &[u8]) -> Plan {
+    let none = Plan {
+        count: 0,
+        widths: [0u16; 8],
+    };
+    let Line::Is(form) = script::form_of(line) else {
+        return none;
+    };
+    let Form::Plan { at, count } = form else {
+        return none;
+    };
+    if 8 < count {
+        return none;
+    }
+    Plan {
+        count: count as u16,
+        widths: script::widths_at(line, at, count),
+    }
 }
 
 fn play_text(text: &[u8], image: &mut [u8]) {
     let end = bytes::scan::find(text, 0, text.len(), b'\n');
     let plan = plan_of(&text[..end]);
-    let total = total_of(plan);
+    let total = base_of(plan, plan.count);
     if image.len() < total {
         return;
     }

@@ -7,10 +7,10 @@ use Rattle.looks.proofs.play_lines.Statement.{statement}
 use Rattle.looks.proofs.play_lines.Tie as tie
 
 abbrev Inv-loop : tie.InvT-loop
-Inv-loop text from plan image₀ at₀ device₀ image at device = (from ≤ at) × (length image ≡ length image₀)
+Inv-loop text from image₀ at₀ device₀ image at device = (from ≤ at) × (length image ≡ length image₀)
 
 abbrev μ-loop : tie.MeasureT-loop
-μ-loop text from plan image₀ at₀ device₀ image at device = length text + 1 - at
+μ-loop text from image₀ at₀ device₀ image at device = length text + 1 - at
 
 loop-holds : tie.Need-loop-holds Inv-loop μ-loop
 loop-holds c = search needs
@@ -18,17 +18,17 @@ loop-holds c = search needs
 find-requires : tie.Need-find-requires Inv-loop μ-loop
 find-requires c κs = search needs
 
-sub-play : tie.Need-sub-play Inv-loop μ-loop
-sub-play c = search needs
+sub-play-line : tie.Need-sub-play-line Inv-loop μ-loop
+sub-play-line c = search needs
 
-part-play-start : tie.Need-part-play-start Inv-loop μ-loop
-part-play-start c = search needs
+part-play-line-start : tie.Need-part-play-line-start Inv-loop μ-loop
+part-play-line-start c = search needs
 
-part-play-end : tie.Need-part-play-end Inv-loop μ-loop
-part-play-end c = search needs
+part-play-line-end : tie.Need-part-play-line-end Inv-loop μ-loop
+part-play-line-end c = search needs
 
-play-requires : tie.Need-play-requires Inv-loop μ-loop
-play-requires c κs = search needs
+play-line-requires : tie.Need-play-line-requires Inv-loop μ-loop
+play-line-requires c κs = search needs
 
 add-at : tie.Need-add-at Inv-loop μ-loop
 add-at c = search needs
@@ -53,10 +53,10 @@ play-lines-spec =
     μ-loop
     loop-holds
     find-requires
-    sub-play
-    part-play-start
-    part-play-end
-    play-requires
+    sub-play-line
+    part-play-line-start
+    part-play-line-end
+    play-line-requires
     add-at
     loop-less
     loop-again

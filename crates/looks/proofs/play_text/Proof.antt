@@ -14,8 +14,8 @@ slice-aggregate-plan-of c = sym (length-take-le _ _ (search needs))
 plan-of-requires : tie.Need-plan-of-requires
 plan-of-requires c κs = search needs
 
-total-of-requires : tie.Need-total-of-requires
-total-of-requires c κs = search needs
+base-of-requires : tie.Need-base-of-requires
+base-of-requires c κs = search needs
 
 returns : tie.Need-returns
 returns c = search needs
@@ -45,7 +45,7 @@ play-text-spec =
     find-requires
     slice-aggregate-plan-of
     plan-of-requires
-    total-of-requires
+    base-of-requires
     returns
     add-run
     slice-relend-prefix-run

@@ -6,10 +6,10 @@ use Rattle.looks.proofs.say_bytes.Statement.{statement}
 use Rattle.looks.proofs.say_bytes.Tie as tie
 
 abbrev Inv-loop : tie.InvT-loop
-Inv-loop first bytes before₀ i₀ before i = i ≤ length bytes
+Inv-loop bytes before₀ i₀ before i = i ≤ length bytes
 
 abbrev μ-loop : tie.MeasureT-loop
-μ-loop first bytes before₀ i₀ before i = length bytes - i
+μ-loop bytes before₀ i₀ before i = length bytes - i
 
 loop-holds : tie.Need-loop-holds Inv-loop μ-loop
 loop-holds c = search needs

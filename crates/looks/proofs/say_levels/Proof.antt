@@ -1,8 +1,8 @@
--- `looks::say_drives` is safe and ends.
+-- `looks::say_levels` is safe and ends.
 use borrow.Author.Needs.{needs}
 use Prim.Native.Nat.{_-_, _≤_}
-use Rattle.looks.proofs.say_drives.Statement.{statement}
-use Rattle.looks.proofs.say_drives.Tie as tie
+use Rattle.looks.proofs.say_levels.Statement.{statement}
+use Rattle.looks.proofs.say_levels.Tie as tie
 
 abbrev Inv-loop : tie.InvT-loop
 Inv-loop level₀ level = level ≤ 21
@@ -28,7 +28,7 @@ loop-again c = search needs
 returns : tie.Need-returns Inv-loop μ-loop
 returns c = search needs
 
-pub say-drives-spec : {M : Type 1} → statement M
-say-drives-spec =
+pub say-levels-spec : {M : Type 1} → statement M
+say-levels-spec =
     tie.close
     (tie.spec Inv-loop μ-loop loop-holds say-level-requires add-level loop-less loop-again returns)
