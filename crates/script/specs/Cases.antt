@@ -1,7 +1,7 @@
 -- Worked lines: a table, and one theorem that the definitions give each row; then the values of some lists.
-use Prim.Native.Nat.{ℕ, zero, suc}
+use Prim.Native.Nat.{ℕ}
 use mathlib.Core.Path.{_≡_, refl}
-use mathlib.Core.List.{List, [], _∷_, _++_, map}
+use mathlib.Core.List.{List, [], _∷_, map}
 use Rattle.script.specs.declared.Form.the-variants.{Plan, Write, Step, Cut, Wake, Show}
 use Rattle.token.specs.declared.Kind.the-variants.{Byte}
 use Rattle.script.specs.declared.Line.{Line}
@@ -12,12 +12,8 @@ use Rattle.script.specs.Line.{closedAt, planOf, writeOf, stepOf, cutOf, 
 use Rattle.token.specs.Items.{valuesAt}
 use Rattle.script.specs.Widths.{widthsAt}
 
--- so many bytes f7, each with a space after it
-abbrev many : ℕ → List ℕ
-many zero = []
-many (suc count) = ascii "f7 " ++ many count
-
--- a line, and what it says; a list is told by its place and count
+-- a line, and what it says; a list is told by its place and count. Lists of 256 and of 257 bytes are among the stored scripts
+-- (crates/vectors/data, write-256 and write-257).
 pub rows : List (List ℕ × Line)
 rows =
     (ascii "(plan (2 1))", Is (Plan 7 2))
@@ -41,7 +37,6 @@ rows =
     ∷ (ascii "(write  0 ())", Bad)
     ∷ (ascii "(write 0 (0a0b))", Bad)
     ∷ (ascii "(write 0 (0a,0b))", Bad)
-    ∷ (ascii "(write 1 (" ++ many 255 ++ ascii "00))", Is (Write 1 10 256))
     ∷ (ascii "(step 1)", Is (Step 1))
     ∷ (ascii "(step 65535)", Is (Step 65535))
     ∷ (ascii "(step 65536)", Bad)
