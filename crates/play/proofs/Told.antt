@@ -6,8 +6,8 @@ use mathlib.Core.List.{List}
 use mathlib.Core.Option.{some}
 use lib.ListN.{length}
 use Rattle.script.specs.declared.Form.{Form}
-use Rattle.printing.specs.Text.{answerLine}
-use Rattle.printing.specs.Wrote.{Wrote}
+use Rattle.printing.specs.Printed.{answerLine}
+use Rattle.text.specs.Wrote.{Wrote}
 use Rattle.store.specs.declared.Answer.{Answer}
 use Rattle.store.specs.Modelled.{modelled, Gives}
 use Rattle.model.specs.Calls.{Outcome}

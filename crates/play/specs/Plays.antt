@@ -11,8 +11,8 @@ use Rattle.script.specs.declared.Form.the-variants.{Plan, Write, Step, Cut, Wak
 use Rattle.token.specs.declared.Kind.the-variants.{Byte}
 use Rattle.token.specs.Ascii.{ascii}
 use Rattle.token.specs.Items.{valuesAt}
-use Rattle.printing.specs.Text.{answerLine, lineMost}
-use Rattle.printing.specs.Wrote.{Wrote}
+use Rattle.printing.specs.Printed.{answerLine, lineMost}
+use Rattle.text.specs.Wrote.{Wrote}
 use Rattle.store.specs.Modelled.{modelled}
 use Rattle.store.specs.Steps.{steps}
 use Rattle.model.specs.declared.Plan as model

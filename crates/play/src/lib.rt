@@ -20,8 +20,8 @@ ghost use Rattle.script.specs.declared.Line.the-variants.{Is};
 ghost use Rattle.token.specs.Ascii.{ascii};
 ghost use Rattle.token.specs.Items.{valuesAt};
 ghost use Rattle.script.specs.Line.{formOf};
-ghost use Rattle.printing.specs.Text.{answerLine, lineMost};
-ghost use Rattle.printing.specs.Wrote.{Wrote};
+ghost use Rattle.printing.specs.Printed.{answerLine, lineMost};
+ghost use Rattle.text.specs.Wrote.{Wrote};
 ghost use Rattle.play.specs.Plays.{Buffer, placeFor, Held, plays, Plays};
 
 // The device after a line, and how much of the buffer is used; `bad` if the line may not stand where it does.

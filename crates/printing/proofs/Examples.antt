@@ -1,11 +1,12 @@
--- The printed lines of document 01's whole case, and numbers at their edges.
+-- The printed lines of document 01's whole case.
 use Prim.Native.Nat.{ℕ}
 use mathlib.Core.Path.{_≡_, refl}
-use mathlib.Core.List.{List, [], _∷_, _++_, map}
+use mathlib.Core.List.{List, [], _∷_, _++_}
 use Rattle.model.specs.declared.Plan.{Plan}
 use Rattle.model.specs.Layout.{base, get, copyOf}
 use Rattle.token.specs.Ascii.{ascii}
-use Rattle.printing.specs.Text.{digit, hex, bytesText, digitAt, decimal, numbered, answerLine, listed, unitText, unitLine}
+use Rattle.text.specs.Text.{digit, hex, bytesText, digitAt, decimal}
+use Rattle.printing.specs.Printed.{numbered, answerLine, listed, unitText, unitLine}
 
 -- `(plan (2 1))`
 abbrev twoUnits : Plan
@@ -24,12 +25,3 @@ pub answered : answerLine (ascii "plan") 0 ++ answerLine (ascii "write") 7 ++ an
     ≡ ascii "plan 0\nwrite 7\nbad 65536\n"
 unfolding answerLine numbered decimal digitAt digit
 answered = refl
-
-pub decimals : map decimal (0 ∷ 9 ∷ 10 ∷ 99 ∷ 100 ∷ 909 ∷ 1000 ∷ 10000 ∷ 65535 ∷ 99999 ∷ [])
-    ≡ map ascii ("0" ∷ "9" ∷ "10" ∷ "99" ∷ "100" ∷ "909" ∷ "1000" ∷ "10000" ∷ "65535" ∷ "99999" ∷ [])
-unfolding decimal digitAt digit
-decimals = refl
-
-pub bytes : bytesText (0 ∷ 9 ∷ 10 ∷ 15 ∷ 16 ∷ 160 ∷ 255 ∷ []) ≡ ascii " 00 09 0a 0f 10 a0 ff"
-unfolding bytesText hex digit
-bytes = refl

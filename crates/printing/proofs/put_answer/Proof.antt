@@ -1,8 +1,8 @@
 -- `printing::put_answer` meets its contract: the word and the number, then LF.
 use native.Mathlib.Omega.{arith}
 use borrow.Author.Needs.{needs}
-use Rattle.printing.specs.Text.{answerLine}
-use Rattle.printing.proofs.Laws.{wrote-then}
+use Rattle.printing.specs.Printed.{answerLine}
+use Rattle.text.proofs.Laws.{wrote-then}
 use Rattle.printing.proofs.put_answer.Statement.{statement}
 use Rattle.printing.proofs.put_answer.Tie as tie
 

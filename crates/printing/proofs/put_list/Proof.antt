@@ -1,8 +1,8 @@
 -- `printing::put_list` meets its contract: the three pieces one after the other.
 use native.Mathlib.Omega.{arith}
 use borrow.Author.Needs.{needs}
-use Rattle.printing.specs.Text.{listed}
-use Rattle.printing.proofs.Laws.{wrote-then}
+use Rattle.printing.specs.Printed.{listed}
+use Rattle.text.proofs.Laws.{wrote-then}
 use Rattle.printing.proofs.put_list.Statement.{statement}
 use Rattle.printing.proofs.put_list.Tie as tie
 

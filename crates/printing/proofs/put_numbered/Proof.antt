@@ -1,8 +1,8 @@
 -- `printing::put_numbered` meets its contract: the word, a space, the number.
 use native.Mathlib.Omega.{arith}
 use borrow.Author.Needs.{needs}
-use Rattle.printing.specs.Text.{numbered}
-use Rattle.printing.proofs.Laws.{wrote-then}
+use Rattle.printing.specs.Printed.{numbered}
+use Rattle.text.proofs.Laws.{wrote-then}
 use Rattle.printing.proofs.put_numbered.Statement.{statement}
 use Rattle.printing.proofs.put_numbered.Tie as tie
 

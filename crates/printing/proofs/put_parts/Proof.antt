@@ -1,8 +1,8 @@
 -- `printing::put_parts` meets its contract: the five pieces one after the other.
 use native.Mathlib.Omega.{arith}
 use borrow.Author.Needs.{needs}
-use Rattle.printing.specs.Text.{unitText}
-use Rattle.printing.proofs.Laws.{wrote-then}
+use Rattle.printing.specs.Printed.{unitText}
+use Rattle.text.proofs.Laws.{wrote-then}
 use Rattle.printing.proofs.put_parts.Statement.{statement}
 use Rattle.printing.proofs.put_parts.Tie as tie
 

@@ -2,7 +2,8 @@
 use native.Mathlib.Omega.{arith}
 use denote.Ref.{now}
 use borrow.Author.Needs.{needs}
-use Rattle.printing.proofs.Laws.{wrote-as, unit-fits, sized, unit-parts}
+use Rattle.text.proofs.Laws.{wrote-as}
+use Rattle.printing.proofs.Laws.{unit-fits, sized, unit-parts}
 use Rattle.printing.proofs.put_unit.Statement.{statement}
 use Rattle.printing.proofs.put_unit.Tie as tie
 

@@ -1,11 +1,11 @@
--- `printing::put_digit` meets its contract: nothing, or one digit.
+-- `text::put_digit` meets its contract: nothing, or one digit.
 use native.Mathlib.Omega.{arith}
 use borrow.Author.Tests.{lt-ltb, le-ltb}
 use borrow.Author.Needs.{needs}
-use Rattle.printing.specs.Text.{digitAt}
-use Rattle.printing.proofs.Laws.{wrote-none, wrote-as}
-use Rattle.printing.proofs.put_digit.Statement.{statement}
-use Rattle.printing.proofs.put_digit.Tie as tie
+use Rattle.text.specs.Text.{digitAt}
+use Rattle.text.proofs.Laws.{wrote-none, wrote-as}
+use Rattle.text.proofs.put_digit.Statement.{statement}
+use Rattle.text.proofs.put_digit.Tie as tie
 
 returns : tie.Need-returns
 unfolding digitAt

@@ -1,10 +1,10 @@
--- `printing::put_hex` meets its contract: two digits, one after the other.
+-- `text::put_hex` meets its contract: two digits, one after the other.
 use native.Mathlib.Omega.{arith}
 use borrow.Author.Needs.{needs}
-use Rattle.printing.specs.Text.{hex}
-use Rattle.printing.proofs.Laws.{wrote-then, wrote-as}
-use Rattle.printing.proofs.put_hex.Statement.{statement}
-use Rattle.printing.proofs.put_hex.Tie as tie
+use Rattle.text.specs.Text.{hex}
+use Rattle.text.proofs.Laws.{wrote-then, wrote-as}
+use Rattle.text.proofs.put_hex.Statement.{statement}
+use Rattle.text.proofs.put_hex.Tie as tie
 
 digit-of-requires : tie.Need-digit-of-requires
 digit-of-requires c κs = search needs

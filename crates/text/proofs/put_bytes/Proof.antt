@@ -1,15 +1,15 @@
--- `printing::put_bytes` meets its contract. The loop's invariant: the first i bytes are written, each after a space.
+-- `text::put_bytes` meets its contract. The loop's invariant: the first i bytes are written, each after a space.
 use borrow.Author.Needs.{needs}
 use native.Mathlib.Omega.{arith}
 use mathlib.Core.Path.{_≡_, refl, ap}
 use Prim.Native.Nat.{_+_, _*_, _-_, _≤_}
 use lib.ListN.{length, take}
 use lib.Seq.{take-all}
-use Rattle.printing.specs.Text.{bytesText}
-use Rattle.printing.specs.Wrote.{Wrote}
-use Rattle.printing.proofs.Laws.{wrote-none, wrote-then, wrote-as, bytes-more}
-use Rattle.printing.proofs.put_bytes.Statement.{statement}
-use Rattle.printing.proofs.put_bytes.Tie as tie
+use Rattle.text.specs.Text.{bytesText}
+use Rattle.text.specs.Wrote.{Wrote}
+use Rattle.text.proofs.Laws.{wrote-none, wrote-then, wrote-as, bytes-more}
+use Rattle.text.proofs.put_bytes.Statement.{statement}
+use Rattle.text.proofs.put_bytes.Tie as tie
 
 abbrev Inv-loop : tie.InvT-loop
 Inv-loop out₀ at bytes place₀ i₀ out place i = Wrote out₀ at (bytesText (take i bytes)) out place × (i ≤ length bytes) × (place ≡ at + 3 * i) × (length out ≡ length out₀)

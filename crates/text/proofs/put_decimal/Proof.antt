@@ -1,10 +1,10 @@
--- `printing::put_decimal` meets its contract: the digits of the five powers of ten, one after the other.
+-- `text::put_decimal` meets its contract: the digits of the five powers of ten, one after the other.
 use native.Mathlib.Omega.{arith}
 use borrow.Author.Needs.{needs}
-use Rattle.printing.specs.Text.{decimal}
-use Rattle.printing.proofs.Laws.{wrote-then, wrote-as}
-use Rattle.printing.proofs.put_decimal.Statement.{statement}
-use Rattle.printing.proofs.put_decimal.Tie as tie
+use Rattle.text.specs.Text.{decimal}
+use Rattle.text.proofs.Laws.{wrote-then, wrote-as}
+use Rattle.text.proofs.put_decimal.Statement.{statement}
+use Rattle.text.proofs.put_decimal.Tie as tie
 
 put-digit-requires : tie.Need-put-digit-requires
 put-digit-requires c κs = search needs

@@ -1,9 +1,9 @@
--- `printing::digit_of` meets its contract: 0 to 9, or a to f.
+-- `text::digit_of` meets its contract: 0 to 9, or a to f.
 use borrow.Author.Tests.{lt-ltb, le-ltb}
 use borrow.Author.Needs.{needs}
-use Rattle.printing.specs.Text.{digit}
-use Rattle.printing.proofs.digit_of.Statement.{statement}
-use Rattle.printing.proofs.digit_of.Tie as tie
+use Rattle.text.specs.Text.{digit}
+use Rattle.text.proofs.digit_of.Statement.{statement}
+use Rattle.text.proofs.digit_of.Tie as tie
 
 add-result : tie.Need-add-result
 add-result c = search needs

@@ -1,14 +1,14 @@
--- `printing::put_text` meets its contract. The loop's invariant: the first i bytes of the text are written.
+-- `text::put_text` meets its contract. The loop's invariant: the first i bytes of the text are written.
 use borrow.Author.Needs.{needs}
 use native.Mathlib.Omega.{arith}
 use mathlib.Core.Path.{_≡_, refl}
 use Prim.Native.Nat.{_+_, _-_, _≤_}
 use lib.ListN.{length, take}
 use lib.Seq.{take-all}
-use Rattle.printing.specs.Wrote.{Wrote}
-use Rattle.printing.proofs.Laws.{wrote-none, wrote-then, wrote-as, take-more}
-use Rattle.printing.proofs.put_text.Statement.{statement}
-use Rattle.printing.proofs.put_text.Tie as tie
+use Rattle.text.specs.Wrote.{Wrote}
+use Rattle.text.proofs.Laws.{wrote-none, wrote-then, wrote-as, take-more}
+use Rattle.text.proofs.put_text.Statement.{statement}
+use Rattle.text.proofs.put_text.Tie as tie
 
 abbrev Inv-loop : tie.InvT-loop
 Inv-loop out₀ at text place₀ i₀ out place i = Wrote out₀ at (take i text) out place × (i ≤ length text) × (place ≡ at + i) × (length out ≡ length out₀)
