@@ -1,8 +1,9 @@
 -- The rows of specs/Cases.antt, computed.
 use mathlib.Core.Path.{refl}
 use Rattle.bytes.specs.Bytes.{indexOf, indexAfter, slice}
-use Rattle.token.specs.Token.{eatAt, wordAt, digitOf, digitAt, extendAt, moreAt, entryAt, itemAt, itemsAt}
-use Rattle.token.specs.Items.{valuesAt}
+use Rattle.token.specs.Token.{eatAt, wordAt, digitOf, digitAt, extendAt, moreAt, entryAt}
+use Rattle.list.specs.List.{itemAt, itemsAt}
+use Rattle.list.specs.Items.{valuesAt}
 use Rattle.token.specs.Lines.{lineEnd, lineAt}
 use Rattle.curve.specs.Curve.{rowAt, inRule, lineNumber, linesFrom, loadNumber}
 use Rattle.curve.specs.Cases.{zeros, rows, EveryLine, loads, EveryRoom, endings, EveryEnding}

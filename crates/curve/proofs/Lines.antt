@@ -2,14 +2,14 @@
 use Prim.Native.Nat.{ℕ, suc, _+_, _-_, _≤_, _<_}
 use mathlib.Core.Path.{_≡_, ap, sym, _∙_}
 use mathlib.Core.Bool.{Bool, true, false, cond}
-use mathlib.Core.List.{List, [], _++_}
+use mathlib.Core.List.{List, _++_}
 use native.Mathlib.Omega.{arith}
 use lib.Dec.{eqb, ltb}
 use lib.ListN.{length, take, drop}
 use borrow.Author.Tests.{eq-eqb, ne-eqb, lt-ltb, le-ltb}
-use Rattle.token.specs.declared.Kind.the-variants.{Entry}
+use Rattle.list.specs.declared.Kind.the-variants.{Entry}
 use Rattle.token.specs.Token.{lost}
-use Rattle.token.specs.Items.{valuesAt}
+use Rattle.list.specs.Items.{valuesAt}
 use Rattle.token.specs.Lines.{lineEnd, lineAt}
 use Rattle.curve.specs.Curve.{rowAt, rowOf, inRule, lowerOf, lineNumber, Curve, curve, linesFrom}
 

@@ -9,9 +9,9 @@ use lib.ListN.{length, length-append}
 use lib.Seq.{drop-at, take-at}
 use borrow.Author.Tests.{eq-eqb, ne-eqb}
 use Rattle.model.proofs.Compare.{equal, differ, same}
-use Rattle.token.specs.declared.Kind.the-variants.{Entry}
+use Rattle.list.specs.declared.Kind.the-variants.{Entry}
 use Rattle.token.specs.Token.{lost}
-use Rattle.token.proofs.Values.{values-length}
+use Rattle.list.proofs.Values.{values-length}
 use Rattle.token.specs.Lines.{lineEnd, lineAt}
 use Rattle.curve.specs.Curve.{rowAt, rowOf, inRule, lowerOf, lineNumber, curve, linesFrom, curveOf, levelsGood, passes, badRoom, loadNumber, loaded}
 use Rattle.curve.specs.Promises.{LoadPasses}

@@ -8,10 +8,11 @@ use lib.Dec.{eqb}
 use lib.ListN.{length}
 use borrow.Author.Tests.{eq-eqb, ne-eqb}
 use Rattle.token.specs.Ascii.{ascii}
-use Rattle.token.specs.declared.Kind.the-variants.{Entry}
+use Rattle.list.specs.declared.Kind.the-variants.{Entry}
 use Rattle.token.specs.declared.Item.{Item}
-use Rattle.token.specs.declared.Items.{Items}
-use Rattle.token.specs.Token.{lost, eatAt, wordAt, entryAt, itemsAt}
+use Rattle.list.specs.declared.Items.{Items}
+use Rattle.token.specs.Token.{lost, eatAt, wordAt, entryAt}
+use Rattle.list.specs.List.{itemsAt}
 use Rattle.curve.specs.Curve.{rowAt}
 
 -- what the code read of a line

@@ -10,10 +10,11 @@ use lib.ListN.{length, take, drop, getD, set}
 use lib.Seq.{take-suc-set, append-snoc, drop-cons, drop-drop, drop-nil, getD-take}
 use borrow.Author.Tests.{lt-ltb, le-ltb, leb-true}
 use Rattle.model.proofs.Compare.{below, above, order}
-use Rattle.token.specs.declared.Kind.the-variants.{Entry}
+use Rattle.list.specs.declared.Kind.the-variants.{Entry}
 use Rattle.token.specs.declared.Item.{Item}
-use Rattle.token.specs.Token.{eatAt, entryAt, itemAt}
-use Rattle.token.specs.Items.{valuesAt}
+use Rattle.token.specs.Token.{eatAt, entryAt}
+use Rattle.list.specs.List.{itemAt}
+use Rattle.list.specs.Items.{valuesAt}
 use Rattle.curve.specs.Curve.{higher, inRule, lowerOf}
 
 -- the code's test of one entry at place `at`, after `before` on its line

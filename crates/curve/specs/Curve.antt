@@ -8,11 +8,12 @@ use lib.Dec.{eqb, ltb, leb}
 use lib.ListN.{length, take, drop}
 use Rattle.model.specs.Numbers.{NO-ROOM, BAD-LINE, BAD-ENTRY}
 use Rattle.token.specs.Ascii.{ascii}
-use Rattle.token.specs.declared.Kind.the-variants.{Entry}
+use Rattle.list.specs.declared.Kind.the-variants.{Entry}
 use Rattle.token.specs.declared.Item.{Item}
-use Rattle.token.specs.declared.Items.{Items}
-use Rattle.token.specs.Token.{lost, eatAt, wordAt, entryAt, itemsAt}
-use Rattle.token.specs.Items.{valuesAt}
+use Rattle.list.specs.declared.Items.{Items}
+use Rattle.token.specs.Token.{lost, eatAt, wordAt, entryAt}
+use Rattle.list.specs.List.{itemsAt}
+use Rattle.list.specs.Items.{valuesAt}
 use Rattle.token.specs.Lines.{lineEnd, lineAt}
 
 -- "each `(level L (..))`, L its line number, with 64 entries of 1 to 5 decimal digits without leading zeros, single spaces":

@@ -1,17 +1,17 @@
 // Brake curves from the bike maker: a text of 20 levels by 64 entries is read into a lent scratch, and from there into the lent
 // table once all of it is known to be good. The contracts are equations with specs/Curve.antt.
+use list::Kind;
 use model::refusals::BAD_ENTRY;
 use model::refusals::BAD_LINE;
 use model::refusals::NO_ROOM;
-use token::Kind;
 ghost use mathlib.Core.Path.{_≡_};
 ghost use mathlib.Core.Bool.{true, _||_, _&&_};
 ghost use mathlib.Core.List.{_++_};
 ghost use Prim.Native.Nat.{_+_, _-_, _*_, _<_, _≤_};
 ghost use lib.Dec.{ltb, leb};
 ghost use lib.ListN.{length, take, getD};
-ghost use Rattle.token.specs.declared.Kind.the-variants.{Entry};
-ghost use Rattle.token.specs.Items.{valuesAt};
+ghost use Rattle.list.specs.declared.Kind.the-variants.{Entry};
+ghost use Rattle.list.specs.Items.{valuesAt};
 ghost use Rattle.token.specs.Lines.{lineEnd, lineAt};
 ghost use Rattle.curve.specs.Curve.{rowAt, rowOf, inRule, lowerOf, lineNumber, curveOf, loadNumber, loaded};
 
@@ -22,7 +22,7 @@ fn row_at(line: &[u8], level: usize) -> usize
     let number = token::entry(line, token::word(line, 0, b"(level "));
     let value = number.value;
     let at = token::word(line, number.next, b" (");
-    let row = token::items_at(Kind::Entry, line, at, 64);
+    let row = list::items_at(Kind::Entry, line, at, 64);
     let count = row.count;
     let end = token::eat(line, row.next, b')');
     if value != level {

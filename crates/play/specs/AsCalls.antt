@@ -3,8 +3,8 @@ use Prim.Native.Nat.{ℕ}
 use mathlib.Core.Path.{_≡_}
 use mathlib.Core.List.{List, [], _∷_}
 use lib.ListN.{replicate}
-use Rattle.token.specs.declared.Kind.the-variants.{Byte}
-use Rattle.token.specs.Items.{valuesAt}
+use Rattle.list.specs.declared.Kind.the-variants.{Byte}
+use Rattle.list.specs.Items.{valuesAt}
 use Rattle.script.specs.declared.Form.{Form}
 use Rattle.script.specs.declared.Form.the-variants.{Plan, Write, Step, Cut, Wake, Show}
 use Rattle.model.specs.Calls.{Device, outcome}

@@ -8,9 +8,9 @@ use lib.Dec.{ltb}
 use lib.ListN.{length}
 use Rattle.script.specs.declared.Form.{Form}
 use Rattle.script.specs.declared.Form.the-variants.{Plan, Write, Step, Cut, Wake, Show}
-use Rattle.token.specs.declared.Kind.the-variants.{Byte}
+use Rattle.list.specs.declared.Kind.the-variants.{Byte}
 use Rattle.token.specs.Ascii.{ascii}
-use Rattle.token.specs.Items.{valuesAt}
+use Rattle.list.specs.Items.{valuesAt}
 use Rattle.printing.specs.Printed.{answerLine, lineMost}
 use Rattle.text.specs.Wrote.{Wrote}
 use Rattle.store.specs.Modelled.{modelled}

@@ -8,15 +8,16 @@ use lib.ListN.{length}
 use lib.Dec.{eqb}
 use native.Mathlib.Omega.{arith}
 use Rattle.token.specs.Ascii.{ascii}
-use Rattle.token.specs.declared.Kind.{Kind}
-use Rattle.token.specs.declared.Kind.the-variants.{Byte, Number}
+use Rattle.list.specs.declared.Kind.{Kind}
+use Rattle.list.specs.declared.Kind.the-variants.{Byte, Number}
 use Rattle.token.specs.declared.Item.{Item}
-use Rattle.token.specs.declared.Items.{Items}
+use Rattle.list.specs.declared.Items.{Items}
 use Rattle.script.specs.declared.Form.{Form}
 use Rattle.script.specs.declared.Form.the-variants.{Plan, Write, Step, Cut, Wake, Show}
 use Rattle.script.specs.declared.Line.{Line}
 use Rattle.script.specs.declared.Line.the-variants.{Is, Bad}
-use Rattle.token.specs.Token.{lost, eatAt, wordAt, numberAt, itemAt, items, endsAt, itemsAt, listAt}
+use Rattle.token.specs.Token.{lost, eatAt, wordAt, numberAt}
+use Rattle.list.specs.List.{itemAt, items, endsAt, itemsAt, listAt}
 use Rattle.script.specs.Line.{closedAt, planOf, writeOf, stepOf, cutOf, bareOf, _or_, shortFormOf, formOf}
 
 -- "0 to 16 widths", "0 to 256 bytes"

@@ -3,10 +3,11 @@ use Prim.Native.Nat.{ℕ}
 use mathlib.Core.Path.{_≡_}
 use mathlib.Core.List.{List}
 use Rattle.token.specs.Ascii.{ascii}
-use Rattle.token.specs.declared.Kind.the-variants.{Byte, Number}
+use Rattle.list.specs.declared.Kind.the-variants.{Byte, Number}
 use Rattle.token.specs.declared.Item.{Item}
-use Rattle.token.specs.declared.Items.{Items}
-use Rattle.token.specs.Token.{wordAt, hexAt, numberAt, listAt}
+use Rattle.list.specs.declared.Items.{Items}
+use Rattle.token.specs.Token.{wordAt, hexAt, numberAt}
+use Rattle.list.specs.List.{listAt}
 use Rattle.script.specs.declared.Form.the-variants.{Plan, Write, Cut}
 use Rattle.script.specs.Line.{closedAt, planOf, writeOf, cutOf}
 

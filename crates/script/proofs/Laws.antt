@@ -5,9 +5,9 @@ use mathlib.Core.List.{List, [], _∷_, _++_}
 use lib.ListN.{take, set, replicate}
 use lib.Seq.{sets}
 use native.Mathlib.Omega.{arith}
-use Rattle.token.specs.declared.Kind.the-variants.{Number}
-use Rattle.token.specs.Items.{valuesAt}
-use Rattle.token.proofs.Laws.{sets-out}
+use Rattle.list.specs.declared.Kind.the-variants.{Number}
+use Rattle.list.specs.Items.{valuesAt}
+use Rattle.list.proofs.Laws.{sets-out}
 use Rattle.script.specs.Widths.{widthsAt}
 
 sets-cons : (x : ℕ) (out : List ℕ) (i : ℕ) (values : List ℕ) → sets (x ∷ out) (suc i) values ≡ x ∷ sets out i values

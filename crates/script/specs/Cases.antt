@@ -3,13 +3,14 @@ use Prim.Native.Nat.{ℕ}
 use mathlib.Core.Path.{_≡_, refl}
 use mathlib.Core.List.{List, [], _∷_, map}
 use Rattle.script.specs.declared.Form.the-variants.{Plan, Write, Step, Cut, Wake, Show}
-use Rattle.token.specs.declared.Kind.the-variants.{Byte}
+use Rattle.list.specs.declared.Kind.the-variants.{Byte}
 use Rattle.script.specs.declared.Line.{Line}
 use Rattle.script.specs.declared.Line.the-variants.{Is, Bad}
 use Rattle.token.specs.Ascii.{ascii}
-use Rattle.token.specs.Token.{eatAt, wordAt, digitOf, digitAt, extendAt, hexAt, moreAt, atMost, entryAt, numberAt, itemAt, itemsAt, listAt}
+use Rattle.token.specs.Token.{eatAt, wordAt, digitOf, digitAt, extendAt, hexAt, moreAt, atMost, entryAt, numberAt}
+use Rattle.list.specs.List.{itemAt, itemsAt, listAt}
 use Rattle.script.specs.Line.{closedAt, planOf, writeOf, stepOf, cutOf, bareOf, _or_, shortFormOf, formOf}
-use Rattle.token.specs.Items.{valuesAt}
+use Rattle.list.specs.Items.{valuesAt}
 use Rattle.script.specs.Widths.{widthsAt}
 
 -- a line, and what it says; a list is told by its place and count. Lists of 256 and of 257 bytes are among the stored scripts

@@ -6,10 +6,11 @@ use lib.ListN.{length}
 use lib.Dec.{eqb}
 use Prim.Native.Char.{code}
 use Rattle.token.specs.Ascii.{ascii}
-use Rattle.token.specs.declared.Kind.the-variants.{Byte, Number}
+use Rattle.list.specs.declared.Kind.the-variants.{Byte, Number}
 use Rattle.token.specs.declared.Item.{Item}
-use Rattle.token.specs.declared.Items.{Items}
-use Rattle.token.specs.Token.{eatAt, wordAt, hexAt, numberAt, listAt}
+use Rattle.list.specs.declared.Items.{Items}
+use Rattle.token.specs.Token.{eatAt, wordAt, hexAt, numberAt}
+use Rattle.list.specs.List.{listAt}
 use Rattle.script.specs.declared.Form.{Form}
 use Rattle.script.specs.declared.Form.the-variants.{Plan, Write, Step, Cut, Wake, Show}
 use Rattle.script.specs.declared.Line.{Line}

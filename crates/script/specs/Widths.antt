@@ -2,8 +2,8 @@
 use Prim.Native.Nat.{ℕ}
 use mathlib.Core.List.{List, _++_}
 use lib.ListN.{take, replicate}
-use Rattle.token.specs.declared.Kind.the-variants.{Number}
-use Rattle.token.specs.Items.{valuesAt}
+use Rattle.list.specs.declared.Kind.the-variants.{Number}
+use Rattle.list.specs.Items.{valuesAt}
 
 -- "eight width numbers": the first eight of a list, zeros past them
 unfoldable pub widthsAt : List ℕ → ℕ → ℕ → List ℕ

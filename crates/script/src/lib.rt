@@ -1,14 +1,14 @@
-// One line of a bench script, read: the forms, over the tokens of `token`.
+// One line of a bench script, read: the forms, over the tokens of `token` and the lists of `list`.
 ghost use mathlib.Core.Path.{_≡_};
 ghost use lib.Seq.{sets};
-ghost use Rattle.token.specs.declared.Kind.the-variants.{Byte};
-ghost use Rattle.token.specs.Items.{valuesAt};
+ghost use Rattle.list.specs.declared.Kind.the-variants.{Byte};
+ghost use Rattle.list.specs.Items.{valuesAt};
 ghost use Rattle.script.specs.Line.{closedAt, planOf, writeOf, stepOf, cutOf, bareOf, _or_, shortFormOf, formOf};
 ghost use Rattle.script.specs.Widths.{widthsAt};
-use token::Kind;
+use list::Kind;
+use list::list_at;
 use token::eat;
 use token::hex;
-use token::list_at;
 use token::number;
 use token::word;
 

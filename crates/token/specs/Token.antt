@@ -1,15 +1,12 @@
--- What stands at a place of a line: a byte, a word, a number, a list. A definition reads the line from a place on, and gives the
+-- What stands at a place of a line: a byte, a word, a number. A definition reads the line from a place on, and gives the
 -- place past what it read, or `lost`, where nothing is read any more. The words of document 01, 'Bench program', stand in quotes.
-use Prim.Native.Nat.{ℕ, zero, suc, _+_, _-_, _*_}
+use Prim.Native.Nat.{ℕ, _+_, _-_, _*_}
 use mathlib.Core.Bool.{cond, _&&_, _||_}
 use mathlib.Core.List.{List, [], _∷_}
 use lib.ListN.{length, getD}
 use lib.Dec.{eqb, ltb, leb}
 use Prim.Native.Char.{code}
-use Rattle.token.specs.declared.Kind.{Kind}
-use Rattle.token.specs.declared.Kind.the-variants.{Byte, Number, Entry}
 use Rattle.token.specs.declared.Item.{Item}
-use Rattle.token.specs.declared.Items.{Items}
 
 -- the largest number of a machine's 64 bits: a place that no line in its memory has
 abbrev pub lost : ℕ
@@ -63,28 +60,3 @@ entryAt line at = moreAt line (moreAt line (moreAt line (moreAt line (extendAt l
 -- "W and U are 0 to 65535. W, U, N are decimal"
 unfoldable pub numberAt : List ℕ → ℕ → Item
 numberAt line at = atMost 65535 (entryAt line at)
-
--- what a list is made of: HH, W or a curve's entries
-unfoldable pub itemAt : Kind → List ℕ → ℕ → Item
-itemAt Byte line at = hexAt line at
-itemAt Number line at = numberAt line at
-itemAt Entry line at = entryAt line at
-
--- how many items a list has, and the place past its `)`
-abbrev pub items : ℕ → ℕ → Items
-items count next = record { count = count; next = next }
-
--- the list of count items, if its `)` was found; otherwise the longer one
-abbrev pub endsAt : ℕ → ℕ → Items → Items
-endsAt next count longer = cond (eqb next lost) longer (items count next)
-
--- "single spaces": after count items one to most more, and `)`
-unfoldable pub itemsAt : Kind → List ℕ → ℕ → ℕ → ℕ → Items
-itemsAt kind line at zero count = items 0 lost
-itemsAt kind line at (suc most) count =
-    let past : ℕ = itemAt kind line at .next in
-    endsAt (eatAt line past (code ")")) (count + 1) (itemsAt kind line (eatAt line past (code " ")) most (count + 1))
-
--- "(W ..)", "(HH ..)", after the `(`: none to most items, and `)`
-unfoldable pub listAt : Kind → List ℕ → ℕ → ℕ → Items
-listAt kind line at most = cond (eqb at lost) (items 0 lost) (endsAt (eatAt line at (code ")")) 0 (itemsAt kind line at most 0))

@@ -1,30 +1,16 @@
-// Tokens at a place of a line: a byte, a word, a number, a list. Each reading function is handed the line and a place in it, and
+// Tokens at a place of a line: a byte, a word, a number. Each reading function is handed the line and a place in it, and
 // hands back the place past what it read, or LOST, where nothing is read any more. So one test, at the end, tells whether all was there.
 ghost use mathlib.Core.Path.{_≡_};
 ghost use Prim.Native.Nat.{_+_, _-_, _*_, _<_, _≤_};
 ghost use lib.ListN.{length};
 ghost use Rattle.token.specs.Token.{eatAt, wordAt, digitOf, digitAt, extendAt, hexAt, moreAt, atMost, entryAt, numberAt};
-ghost use Rattle.token.specs.Token.{itemAt, itemsAt, listAt};
 
 // The largest usize: no slice has this place.
 pub const LOST: usize = 18446744073709551615;
 
-// What a list is made of.
-pub enum Kind {
-    Byte,
-    Number,
-    Entry,
-}
-
 // A value that was read, and the place past it.
 pub struct Item {
     pub value: usize,
-    pub next: usize,
-}
-
-// How many items a list has, and the place past its bracket.
-pub struct Items {
-    pub count: usize,
     pub next: usize,
 }
 
@@ -149,61 +135,4 @@ pub fn number(line: &[u8], at: usize) -> Item
     ensures { λ r. ⌜ (r ≡ numberAt (now (line .entry)) at) × (r .value ≤ 65535) ⌝ }
 {
     at_most(65535, entry(line, at))
-}
-
-// What a list is made of, at a place.
-fn item_at(kind: Kind, line: &[u8], at: usize) -> Item
-    ensures { λ r. ⌜ r ≡ itemAt kind (now (line .entry)) at ⌝ }
-{
-    match kind {
-        Kind::Byte => hex(line, at),
-        Kind::Number => number(line, at),
-        Kind::Entry => entry(line, at),
-    }
-}
-
-// One to `most` items with single spaces between, and the bracket that ends them.
-pub fn items_at(kind: Kind, line: &[u8], at: usize, most: usize) -> Items
-    ensures { λ r. ⌜ r ≡ itemsAt kind (now (line .entry)) at most 0 ⌝ }
-{
-    let mut p = at;
-    let mut count: usize = 0;
-    while count < most {
-        let item = item_at(kind, line, p);
-        let past = item.next;
-        let end = eat(line, past, b')');
-        count = count + 1;
-        if end != LOST {
-            return Items {
-                count: count,
-                next: end,
-            };
-        }
-        p = eat(line, past, b' ');
-    }
-    Items {
-        count: 0,
-        next: LOST,
-    }
-}
-
-// A list's items after its bracket, 0 to `most`, and the bracket that ends them.
-pub fn list_at(kind: Kind, line: &[u8], at: usize, most: usize) -> Items
-    ensures { λ r. ⌜ r ≡ listAt kind (now (line .entry)) at most ⌝ }
-{
-    if at == LOST {
-        return Items {
-            count: 0,
-            next: LOST,
-        };
-    }
-    let end = eat(line, at, b')');
-    if end == LOST {
-        items_at(kind, line, at, most)
-    } else {
-        Items {
-            count: 0,
-            next: end,
-        }
-    }
 }

@@ -10,8 +10,8 @@ use mathlib.Core.List.{_++_, append-nil}
 use Prim.Native.Nat.{_+_, _-_, _*_, _≤_}
 use lib.ListN.{length, take, drop}
 use lib.Seq.{length-take-le, take-set-le}
-use Rattle.token.specs.declared.Kind.the-variants.{Entry}
-use Rattle.token.specs.Items.{valuesAt}
+use Rattle.list.specs.declared.Kind.the-variants.{Entry}
+use Rattle.list.specs.Items.{valuesAt}
 use Rattle.curve.specs.Curve.{inRule, lowerOf}
 use Rattle.curve.proofs.Turn.{tested-small, rule-goes-on, rule-ends, values-on, values-end, stored-on}
 use Rattle.curve.proofs.row_into.Statement.{statement}

@@ -8,8 +8,8 @@ use lib.Seq.{length-take-le, length-sets}
 use denote.Ref.{now}
 use borrow.Author.Needs.{needs}
 use Rattle.model.specs.Calls.{begin}
-use Rattle.token.specs.declared.Kind.the-variants.{Byte}
-use Rattle.token.proofs.Values.{values-front}
+use Rattle.list.specs.declared.Kind.the-variants.{Byte}
+use Rattle.list.proofs.Values.{values-front}
 use Rattle.store.specs.Modelled.{modelled}
 use Rattle.store.proofs.Going.{gives-as}
 use Rattle.play.proofs.write.Statement.{statement}

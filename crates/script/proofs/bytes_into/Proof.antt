@@ -6,10 +6,10 @@ use lib.Seq.{sets}
 use native.Mathlib.Nat.{sub-zero}
 use native.Mathlib.Omega.{arith}
 use borrow.Author.Needs.{needs}
-use Rattle.token.specs.declared.Kind.the-variants.{Byte}
-use Rattle.token.specs.Token.{itemAt}
-use Rattle.token.specs.Items.{valuesAt}
-use Rattle.token.proofs.Laws.{values-step, values-end, values-out}
+use Rattle.list.specs.declared.Kind.the-variants.{Byte}
+use Rattle.list.specs.List.{itemAt}
+use Rattle.list.specs.Items.{valuesAt}
+use Rattle.list.proofs.Laws.{values-step, values-end, values-out}
 use Rattle.script.proofs.bytes_into.Statement.{statement}
 use Rattle.script.proofs.bytes_into.Tie as tie
 

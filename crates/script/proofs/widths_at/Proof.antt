@@ -6,11 +6,11 @@ use lib.Seq.{sets}
 use native.Mathlib.Nat.{sub-zero}
 use native.Mathlib.Omega.{arith}
 use borrow.Author.Needs.{needs}
-use Rattle.token.specs.declared.Kind.the-variants.{Number}
-use Rattle.token.specs.Token.{itemAt}
-use Rattle.token.specs.Items.{valuesAt}
+use Rattle.list.specs.declared.Kind.the-variants.{Number}
+use Rattle.list.specs.List.{itemAt}
+use Rattle.list.specs.Items.{valuesAt}
 use Rattle.script.specs.Widths.{widthsAt}
-use Rattle.token.proofs.Laws.{values-step, values-end, values-out}
+use Rattle.list.proofs.Laws.{values-step, values-end, values-out}
 use Rattle.script.proofs.Laws.{widths-all}
 use Rattle.script.proofs.widths_at.Statement.{statement}
 use Rattle.script.proofs.widths_at.Tie as tie

@@ -1,9 +1,9 @@
--- `token::list_at` meets its contract: the tests are those of `listAt`, in its order.
+-- `list::list_at` meets its contract: the tests are those of `listAt`, in its order.
 use borrow.Author.Needs.{needs}
 use borrow.Author.Tests.{eq-eqb, ne-eqb}
-use Rattle.token.specs.Token.{listAt}
-use Rattle.token.proofs.list_at.Statement.{statement}
-use Rattle.token.proofs.list_at.Tie as tie
+use Rattle.list.specs.List.{listAt}
+use Rattle.list.proofs.list_at.Statement.{statement}
+use Rattle.list.proofs.list_at.Tie as tie
 
 returns : tie.Need-returns
 unfolding listAt

@@ -1,8 +1,8 @@
--- `token::item_at` meets its contract: by the kind.
+-- `list::item_at` meets its contract: by the kind.
 use borrow.Author.Needs.{needs}
-use Rattle.token.specs.Token.{itemAt}
-use Rattle.token.proofs.item_at.Statement.{statement}
-use Rattle.token.proofs.item_at.Tie as tie
+use Rattle.list.specs.List.{itemAt}
+use Rattle.list.proofs.item_at.Statement.{statement}
+use Rattle.list.proofs.item_at.Tie as tie
 
 enum-told : tie.Need-enum-told
 enum-told c = search needs

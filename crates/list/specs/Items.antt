@@ -2,8 +2,9 @@
 use Prim.Native.Nat.{ℕ, zero, suc}
 use Prim.Native.Char.{code}
 use mathlib.Core.List.{List, [], _∷_}
-use Rattle.token.specs.declared.Kind.{Kind}
-use Rattle.token.specs.Token.{itemAt, eatAt}
+use Rattle.token.specs.Token.{eatAt}
+use Rattle.list.specs.declared.Kind.{Kind}
+use Rattle.list.specs.List.{itemAt}
 
 -- the values of count items, with a space after each but the last
 unfoldable pub valuesAt : Kind → List ℕ → ℕ → ℕ → List ℕ

@@ -6,9 +6,10 @@ use mathlib.Core.List.{List}
 use lib.ListN.{length, take}
 use lib.Seq.{sets, sets-eq, take-at}
 use native.Mathlib.Omega.{arith}
-use Rattle.token.specs.declared.Kind.{Kind}
-use Rattle.token.specs.Token.{itemAt, eatAt}
-use Rattle.token.specs.Items.{valuesAt}
+use Rattle.token.specs.Token.{eatAt}
+use Rattle.list.specs.declared.Kind.{Kind}
+use Rattle.list.specs.List.{itemAt}
+use Rattle.list.specs.Items.{valuesAt}
 
 pub values-length : (kind : Kind) (line : List ℕ) (at count : ℕ) → length (valuesAt kind line at count) ≡ count
 unfolding valuesAt

@@ -1,14 +1,14 @@
--- `token::items_at` meets its contract: the loop keeps the list that is left to read; a turn is one `items-step`.
+-- `list::items_at` meets its contract: the loop keeps the list that is left to read; a turn is one `items-step`.
 use Prim.Native.Nat.{_-_, _≤_}
 use mathlib.Core.Path.{_≡_, _∙_, sym}
 use native.Mathlib.Nat.{sub-zero}
 use native.Mathlib.Omega.{arith}
 use borrow.Author.Needs.{needs}
 use borrow.Author.Tests.{eq-eqb, ne-eqb}
-use Rattle.token.specs.Token.{itemsAt}
-use Rattle.token.proofs.Laws.{items-step, items-end}
-use Rattle.token.proofs.items_at.Statement.{statement}
-use Rattle.token.proofs.items_at.Tie as tie
+use Rattle.list.specs.List.{itemsAt}
+use Rattle.list.proofs.Laws.{items-step, items-end}
+use Rattle.list.proofs.items_at.Statement.{statement}
+use Rattle.list.proofs.items_at.Tie as tie
 
 abbrev Inv-loop : tie.InvT-loop
 Inv-loop kind line at most p₀ count₀ p count = (count ≤ most) × (itemsAt kind line p (most - count) count ≡ itemsAt kind line at most 0)
