@@ -5,7 +5,8 @@ use Rattle.token.specs.Token.{eatAt, wordAt, digitOf, digitAt, extendAt, moreAt
 use Rattle.list.specs.List.{itemAt, itemsAt}
 use Rattle.list.specs.Items.{valuesAt}
 use Rattle.token.specs.Lines.{lineEnd, lineAt}
-use Rattle.curve.specs.Curve.{rowAt, inRule, lineNumber, linesFrom, loadNumber}
+use Rattle.row.specs.Row.{rowAt, inRule, lineNumber}
+use Rattle.curve.specs.Curve.{linesFrom, loadNumber}
 use Rattle.curve.specs.Cases.{zeros, rows, EveryLine, loads, EveryRoom, endings, EveryEnding}
 
 pub every-line : EveryLine

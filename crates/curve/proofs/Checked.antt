@@ -8,7 +8,8 @@ use lib.Dec.{eqb, leb}
 use lib.ListN.{length, take, drop, getD, length-drop}
 use lib.Seq.{getD-take, getD-drop, drop-drop, length-take-le}
 use borrow.Author.Tests.{ltb-true, leb-true, eqb-true}
-use Rattle.curve.specs.Curve.{higher, inRule, levelsGood, passes}
+use Rattle.row.specs.Row.{higher, inRule}
+use Rattle.curve.specs.Curve.{levelsGood, passes}
 use Rattle.model.proofs.RefusalLaws.{and-true}
 
 -- ---- one row

@@ -1,6 +1,4 @@
 pub mod Cases
-pub mod Row
-pub mod Turn
 pub mod Lines
 pub mod Room
 pub mod Copied

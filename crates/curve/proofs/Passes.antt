@@ -13,7 +13,8 @@ use Rattle.list.specs.declared.Kind.the-variants.{Entry}
 use Rattle.token.specs.Token.{lost}
 use Rattle.list.proofs.Values.{values-length}
 use Rattle.token.specs.Lines.{lineEnd, lineAt}
-use Rattle.curve.specs.Curve.{rowAt, rowOf, inRule, lowerOf, lineNumber, curve, linesFrom, curveOf, levelsGood, passes, badRoom, loadNumber, loaded}
+use Rattle.row.specs.Row.{rowAt, rowOf, inRule, lowerOf, lineNumber}
+use Rattle.curve.specs.Curve.{curve, linesFrom, curveOf, levelsGood, passes, badRoom, loadNumber, loaded}
 use Rattle.curve.specs.Promises.{LoadPasses}
 
 -- what is read of the n lines that are left, after the entries done

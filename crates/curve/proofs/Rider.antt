@@ -8,7 +8,8 @@ use lib.ListN.{getD}
 use Rattle.brake.specs.Table.{drives}
 use Rattle.brake.proofs.Accepted.{in-range}
 use Rattle.brake.proofs.Over.{over-entry}
-use Rattle.curve.specs.Curve.{inRule, levelsGood, passes}
+use Rattle.row.specs.Row.{inRule}
+use Rattle.curve.specs.Curve.{levelsGood, passes}
 use Rattle.curve.specs.Promises.{ConstantPasses, DrivesFit, Faster, Harder}
 use Rattle.curve.proofs.Checked.{table-long, entry-small, never-falls, level-above}
 

@@ -8,9 +8,10 @@ use lib.Dec.{eqb, ltb}
 use lib.ListN.{length}
 use borrow.Author.Tests.{eq-eqb, ne-eqb, lt-ltb, le-ltb}
 use Rattle.model.proofs.Compare.{equal, differ, same}
-use Rattle.curve.specs.Curve.{lineNumber, curve, linesFrom, curveOf, badRoom, loadNumber, loaded}
+use Rattle.row.specs.Row.{lineNumber}
+use Rattle.row.proofs.Line.{line-never-11}
+use Rattle.curve.specs.Curve.{curve, linesFrom, curveOf, badRoom, loadNumber, loaded}
 use Rattle.curve.specs.Promises.{RefusedLeavesTheTable, RoomFor1280, SpareScratch}
-use Rattle.curve.proofs.Lines.{line-never-11}
 
 -- ---- the room
 module _ (text : List ℕ) (table scratch : ℕ) where

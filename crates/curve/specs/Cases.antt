@@ -6,7 +6,8 @@ use mathlib.Core.Path.{_≡_}
 use mathlib.Core.List.{List, [], _∷_, _++_, map}
 use lib.ListN.{replicate}
 use Rattle.token.specs.Ascii.{ascii}
-use Rattle.curve.specs.Curve.{lineNumber, linesFrom, loadNumber}
+use Rattle.row.specs.Row.{lineNumber}
+use Rattle.curve.specs.Curve.{linesFrom, loadNumber}
 
 -- a text that begins with `before`, has n entries `0`, each with a space after it, and ends with `after`
 unfoldable pub zeros : ℕ → List ℕ

@@ -27,11 +27,11 @@ same-length c = search needs
 returns-3 : tie.Need-returns-3
 returns-3 c = let a = c .before .before .before .before .before .before .before .before .before .before .args in
     let r = c .before .before .before .read-lines .ensures in
-    let w = bad-text (now (a .text)) (now (a .table)) (length (now (a .scratch))) (c .before .before .before .before .before .before .if1 .left) (c .before .before .before .before .before .if2 .left) _ (r .0) (λ z. absurd (omega (arith, c .if3 .taken, z))) in
+    let w = bad-text (now (a .text)) (now (a .table)) (length (now (a .scratch))) (omega (arith, c .before .before .before .before .before .before .if1 .left)) (c .before .before .before .before .before .if2 .left) _ (r .0) (λ z. absurd (omega (arith, c .if3 .taken, z))) in
     (w .0, w .1, refl, r .2)
 
 copy-requires : tie.Need-copy-requires
-copy-requires c κs = (c .before .before .before .before .before .before .before .before .if1 .left, omega (arith, c .before .before .before .before .before .read-lines .ensures .2, c .before .before .before .before .before .before .before .if2 .left))
+copy-requires c κs = (omega (arith, c .before .before .before .before .before .before .before .before .if1 .left), omega (arith, c .before .before .before .before .before .read-lines .ensures .2, c .before .before .before .before .before .before .before .if2 .left))
 
 same-length-2 : tie.Need-same-length-2
 same-length-2 c = search needs
@@ -42,7 +42,7 @@ same-length-3 c = search needs
 returns-4 : tie.Need-returns-4
 returns-4 c = let a = c .before .before .before .before .before .before .before .before .before .before .before .before .before .before .before .args in
     let r = c .before .before .before .before .before .before .before .before .read-lines .ensures in
-    let fits = c .before .before .before .before .before .before .before .before .before .before .before .if1 .left in
+    let fits : length (now (a .table)) ≡ 1280 = omega (arith, c .before .before .before .before .before .before .before .before .before .before .before .if1 .left) in
     let good : c .before .before .before .before .before .before .before .before .read-lines .result ≡ 0 = omega (arith, c .before .before .before .before .before .if3 .left) in
     let copied = c .before .before .copy .ensures in
     let w = good-text (now (a .text)) (now (a .table)) (length (now (a .scratch))) fits (c .before .before .before .before .before .before .before .before .before .before .if2 .left) _ _ (r .0) good (copied .0 ∙ r .1 good) in

@@ -1,10 +1,10 @@
--- `curve::in_rule` meets its contract: the tests in the definition's order.
+-- `row::in_rule` meets its contract: the tests in the definition's order.
 use borrow.Author.Needs.{needs}
 use native.Mathlib.Omega.{arith}
 use Prim.Native.Nat.{_-_}
 use borrow.Author.Tests.{lt-leb, le-leb, lt-ltb, le-ltb}
-use Rattle.curve.proofs.in_rule.Statement.{statement}
-use Rattle.curve.proofs.in_rule.Tie as tie
+use Rattle.row.proofs.in_rule.Statement.{statement}
+use Rattle.row.proofs.in_rule.Tie as tie
 
 returns : tie.Need-returns
 returns c = let a = c .before .args in

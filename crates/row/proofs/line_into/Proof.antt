@@ -1,4 +1,4 @@
--- `curve::line_into` meets its contract: the line is missing, or not of the form, or out of rule, or the next row.
+-- `row::line_into` meets its contract: the line is missing, or not of the form, or out of rule, or the next row.
 use borrow.Author.Needs.{needs}
 use native.Mathlib.Omega.{arith}
 use denote.Ref.{now}
@@ -7,12 +7,13 @@ use mathlib.Core.List.{_++_}
 use Prim.Native.Nat.{_+_, _-_, _*_}
 use lib.ListN.{take}
 use Rattle.token.specs.Lines.{lineEnd}
-use Rattle.curve.proofs.Lines.{line-missing, line-formless, line-good, line-bad, is-row}
-use Rattle.curve.proofs.line_into.Statement.{statement}
-use Rattle.curve.proofs.line_into.Tie as tie
+use Rattle.row.proofs.Line.{line-missing, line-formless, line-good, line-bad, is-row}
+use Rattle.row.proofs.line_into.Statement.{statement}
+use Rattle.row.proofs.line_into.Tie as tie
 
 returns : tie.Need-returns
-returns c = (line-missing _ _ _ _ (c .if1 .taken), λ z. absurd (omega arith), refl)
+returns c = let a = c .before .before .before .args in
+    (line-missing (a .i) (now (a .text)) (a .at) (take (64 * a .i) (now (a .scratch))) (c .if1 .taken), λ z. absurd (omega arith), refl)
 
 find-requires : tie.Need-find-requires
 find-requires c κs = search needs

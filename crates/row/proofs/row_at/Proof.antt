@@ -1,12 +1,12 @@
--- `curve::row_at` meets its contract: each test rules the form out, and where none does the entries begin.
+-- `row::row_at` meets its contract: each test rules the form out, and where none does the entries begin.
 use borrow.Author.Needs.{needs}
 use native.Mathlib.Omega.{arith}
 use denote.Ref.{now}
 use mathlib.Core.Path.{ap, _∙_}
 use Rattle.token.specs.Token.{entryAt}
-use Rattle.curve.proofs.Row.{other-level, other-count, other-end, of-form}
-use Rattle.curve.proofs.row_at.Statement.{statement}
-use Rattle.curve.proofs.row_at.Tie as tie
+use Rattle.row.proofs.Row.{other-level, other-count, other-end, of-form}
+use Rattle.row.proofs.row_at.Statement.{statement}
+use Rattle.row.proofs.row_at.Tie as tie
 
 slice-aggregate-word : tie.Need-slice-aggregate-word
 slice-aggregate-word c = search needs

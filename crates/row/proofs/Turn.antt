@@ -15,7 +15,7 @@ use Rattle.token.specs.declared.Item.{Item}
 use Rattle.token.specs.Token.{eatAt, entryAt}
 use Rattle.list.specs.List.{itemAt}
 use Rattle.list.specs.Items.{valuesAt}
-use Rattle.curve.specs.Curve.{higher, inRule, lowerOf}
+use Rattle.row.specs.Row.{higher, inRule, lowerOf}
 
 -- the code's test of one entry at place `at`, after `before` on its line
 abbrev pub tested : List ℕ → ℕ → ℕ → ℕ → Bool

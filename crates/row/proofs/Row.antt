@@ -13,7 +13,7 @@ use Rattle.token.specs.declared.Item.{Item}
 use Rattle.list.specs.declared.Items.{Items}
 use Rattle.token.specs.Token.{lost, eatAt, wordAt, entryAt}
 use Rattle.list.specs.List.{itemsAt}
-use Rattle.curve.specs.Curve.{rowAt}
+use Rattle.row.specs.Row.{rowAt}
 
 -- what the code read of a line
 module _ (l : ℕ) (line : List ℕ) (level : Item) (at : ℕ) (row : Items) (end : ℕ)

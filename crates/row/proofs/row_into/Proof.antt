@@ -1,4 +1,4 @@
--- `curve::row_into` meets its contract. The loop's invariant: the lines before stand as they were; the entries read and those
+-- `row::row_into` meets its contract. The loop's invariant: the lines before stand as they were; the entries read and those
 -- left are the row; the rules that are left to ask decide.
 use borrow.Author.Needs.{needs}
 use native.Mathlib.Omega.{arith}
@@ -12,10 +12,10 @@ use lib.ListN.{length, take, drop}
 use lib.Seq.{length-take-le, take-set-le}
 use Rattle.list.specs.declared.Kind.the-variants.{Entry}
 use Rattle.list.specs.Items.{valuesAt}
-use Rattle.curve.specs.Curve.{inRule, lowerOf}
-use Rattle.curve.proofs.Turn.{tested-small, rule-goes-on, rule-ends, values-on, values-end, stored-on}
-use Rattle.curve.proofs.row_into.Statement.{statement}
-use Rattle.curve.proofs.row_into.Tie as tie
+use Rattle.row.specs.Row.{inRule, lowerOf}
+use Rattle.row.proofs.Turn.{tested-small, rule-goes-on, rule-ends, values-on, values-end, stored-on}
+use Rattle.row.proofs.row_into.Statement.{statement}
+use Rattle.row.proofs.row_into.Tie as tie
 
 abbrev Inv-loop : tie.InvT-loop
 Inv-loop line from scratch₀ i at₀ end p₀ before₀ scratch at p before =

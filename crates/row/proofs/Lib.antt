@@ -1,0 +1,4 @@
+pub mod Cases
+pub mod Row
+pub mod Turn
+pub mod Line
