@@ -1,10 +1,11 @@
-// A step, on the parts of a device: the store that comes next, the phase after it, and the count.
+// A step, and steps in a row, on the parts of a device: the store that comes next, the phase after it, and the count.
 ghost use mathlib.Core.Path.{_≡_};
 ghost use lib.ListN.{length};
 ghost use Rattle.model.specs.declared.Phase.the-variants.{Writing, Recovering};
 ghost use Rattle.model.specs.Refusals.{stepNumber};
-ghost use Rattle.model.specs.Calls.{viewOf, counted};
-ghost use Rattle.advance.specs.Advances.{Advances, AdvancesAll};
+ghost use Rattle.model.specs.Calls.{viewOf, counted, outcome};
+ghost use Rattle.model.specs.Steps.{steps};
+ghost use Rattle.advance.specs.Advances.{parts, Advances, AdvancesAll};
 use mirror::End;
 use mirror::clean_on;
 use mirror::write_on;
@@ -156,5 +157,38 @@ pub fn advance(plan: Plan, payload: &[u8], phase: Phase, before: u32, image: &mu
             made,
             direction,
         } => advance_cleaning(plan, unit, made, direction, before, &mut image[..]),
+    }
+}
+
+// Up to `count` steps, ending early at a refusal.
+pub fn advance_by(
+    plan: Plan,
+    payload: &[u8],
+    from: Phase,
+    since: u32,
+    image: &mut [u8],
+    count: u16,
+) -> Advanced
+    requires { ⌜ length (now payload) ≡ 256 ⌝ }
+    ensures { λ r. ⌜ outcome (r .number) (parts plan (now (payload .entry)) (r .phase) (r .stores)) (now (image .exit))
+        ≡ steps count (parts plan (now (payload .entry)) from since) (now (image .entry)) ⌝ }
+{
+    let mut phase = from;
+    let mut stores = since;
+    let mut made: u16 = 0;
+    while made < count {
+        let after = advance(plan, payload, phase, stores, &mut image[..]);
+        let refusal = after.number;
+        if refusal != 0 {
+            return after;
+        }
+        phase = after.phase;
+        stores = after.stores;
+        made = made + 1;
+    }
+    Advanced {
+        number: 0,
+        phase: phase,
+        stores: stores,
     }
 }

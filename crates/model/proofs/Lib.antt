@@ -13,3 +13,4 @@ pub mod Invariant
 pub mod Keeps
 pub mod Theorem
 pub mod Restart
+pub mod InARow

@@ -8,6 +8,7 @@ pub mod Calls
 pub mod Ledger
 pub mod PowerCut
 pub mod Restart
+pub mod Steps
 pub mod Foreign
 pub mod Drive
 pub mod Cases

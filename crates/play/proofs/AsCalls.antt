@@ -2,7 +2,7 @@
 use mathlib.Core.Path.{refl}
 use Rattle.script.specs.declared.Form.the-variants.{Plan, Write, Step, Cut, Wake, Show}
 use Rattle.model.specs.PowerCut.{call, run}
-use Rattle.store.proofs.InARow.{steps-run}
+use Rattle.model.proofs.InARow.{steps-run}
 use Rattle.play.specs.Plays.{plays}
 use Rattle.play.specs.AsCalls.{LinesAreCalls}
 

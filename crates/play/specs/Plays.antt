@@ -14,7 +14,7 @@ use Rattle.list.specs.Items.{valuesAt}
 use Rattle.printing.specs.Printed.{answerLine, lineMost}
 use Rattle.text.specs.Wrote.{Wrote}
 use Rattle.store.specs.Modelled.{modelled}
-use Rattle.store.specs.Steps.{steps}
+use Rattle.model.specs.Steps.{steps}
 use Rattle.model.specs.declared.Plan as model
 use Rattle.model.specs.Layout.{total}
 use Rattle.model.specs.Refusals.{startNumber}

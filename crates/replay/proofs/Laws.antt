@@ -12,7 +12,7 @@ use Rattle.model.specs.Ledger.{Call, begin, step, cut, wake}
 use Rattle.model.specs.PowerCut.{call, run}
 use Rattle.store.specs.declared.Answer.{Answer}
 use Rattle.store.specs.Modelled.{modelled, Gives}
-use Rattle.store.proofs.Going.{gives-as}
+use Rattle.store.proofs.Laws.{gives-as}
 use Rattle.replay.specs.Encoding.{two, callOf, unitIn, sizeIn, callsFrom}
 
 -- ---- playing

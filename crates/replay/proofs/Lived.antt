@@ -22,6 +22,7 @@ use Rattle.model.specs.Calls.{Device, Outcome, outcome, asStarted, asWoken, vie
 use Rattle.model.specs.Calls as calls
 use Rattle.model.specs.Ledger.{Ledger, Call, step, cut, opening, after}
 use Rattle.model.specs.PowerCut.{call, run, answers, closedBy, repair, Repairs, none, only}
+use Rattle.model.specs.Steps.{steps}
 use Rattle.model.specs.Restart.{restarted, Leads, ended, called, lost}
 use Rattle.model.proofs.Compare.{equal, differ, same}
 use Rattle.model.proofs.RefusalLaws.{PlanOk, width-bounds}
@@ -29,11 +30,10 @@ use Rattle.model.proofs.StoreLaws.{none-found, lowest-found}
 use Rattle.model.proofs.Invariant.{Inv}
 use Rattle.model.proofs.Theorem.{accepts, along, format-opens, formats}
 use Rattle.model.proofs.Restart.{starts, power-cut-restarting}
+use Rattle.model.proofs.InARow.{steps-run}
 use Rattle.store.specs.declared.Answer.{Answer}
 use Rattle.store.specs.Modelled.{modelled, Gives, Starts}
-use Rattle.store.specs.Steps.{steps}
-use Rattle.store.proofs.Going.{gives-as}
-use Rattle.store.proofs.InARow.{steps-run}
+use Rattle.store.proofs.Laws.{gives-as}
 use Rattle.replay.specs.Outage.{Fits, repairSteps, Restored}
 use Rattle.replay.proofs.Laws.{same-call, gave}
 

@@ -65,6 +65,9 @@ module _ (d : Device) (image : List ℕ) (k : ℕ) where
     unfolding cut cutNumber imageAfter
     cut-accepted z = accepted _ after d image k _ _ (s .number) z (record { number = refl; device = refl; image = s .image z })
 
+pub gives-as : {r : Answer} {left : List ℕ} {o o′ : Outcome} → o ≡ o′ → Gives r left o → Gives r left o′
+gives-as e g = rw e at g
+
 -- ---- a step's outcome is the answer's
 pub gives : (d : Device) (k : ℕ) (left : List ℕ) (o : Outcome) → outcome k (modelled d) left ≡ o
     → Gives (record { number = k; device = d }) left o

@@ -1,2 +1,1 @@
 pub mod Modelled
-pub mod Steps

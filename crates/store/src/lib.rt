@@ -1,15 +1,13 @@
 // The save store: the device and its calls. A call takes the device whole and hands back its number, which is 0 or the lowest
 // refusal of document 01 that applies, and the next device. A refused call gives the device back as it came and changes no byte.
-// Every contract is an equation with the definitions of crates/model/specs/Calls.antt.
+// Every contract is an equation with the definitions of crates/model/specs/Calls.antt, or, for `steps`, of Steps.antt.
 ghost use mathlib.Core.Path.{_≡_};
-ghost use lib.ListN.{length};
 ghost use Rattle.model.specs.Refusals.{readNumber};
-ghost use Rattle.model.specs.Calls.{view, outcome, start, format, begin, step, wake, cut, read, inspect};
-ghost use Rattle.advance.specs.Advances.{parts};
+ghost use Rattle.model.specs.Calls.{view, start, format, begin, step, wake, cut, read, inspect};
+ghost use Rattle.model.specs.Steps.{steps};
 ghost use Rattle.store.specs.Modelled.{modelled, blanked, Gives, Starts};
-ghost use Rattle.store.specs.Steps.{steps};
-use advance::Advanced;
 use advance::advance;
+use advance::advance_by;
 use format::format_units;
 use format::zero_filled;
 use layout::device_number;
@@ -49,39 +47,6 @@ fn blank(plan: Plan, phase: Phase, stores: u32) -> Device
     Device {
         plan: plan,
         payload: [0u8; 256],
-        phase: phase,
-        stores: stores,
-    }
-}
-
-// Up to `count` steps, ending early at a refusal.
-fn advance_by(
-    plan: Plan,
-    payload: &[u8],
-    from: Phase,
-    since: u32,
-    image: &mut [u8],
-    count: u16,
-) -> Advanced
-    requires { ⌜ length (now payload) ≡ 256 ⌝ }
-    ensures { λ r. ⌜ outcome (r .number) (parts plan (now (payload .entry)) (r .phase) (r .stores)) (now (image .exit))
-        ≡ steps count (parts plan (now (payload .entry)) from since) (now (image .entry)) ⌝ }
-{
-    let mut phase = from;
-    let mut stores = since;
-    let mut made: u16 = 0;
-    while made < count {
-        let after = advance(plan, payload, phase, stores, &mut image[..]);
-        let refusal = after.number;
-        if refusal != 0 {
-            return after;
-        }
-        phase = after.phase;
-        stores = after.stores;
-        made = made + 1;
-    }
-    Advanced {
-        number: 0,
         phase: phase,
         stores: stores,
     }
@@ -191,14 +156,14 @@ impl Device {
         let after = advance_by(plan, &payload, phase, stores, &mut image[..], count);
         let number = after.number;
         let next = after.phase;
-        let made = after.stores;
+        let counted = after.stores;
         Answer {
             number: number,
             device: Device {
                 plan: plan,
                 payload: payload,
                 phase: next,
-                stores: made,
+                stores: counted,
             },
         }
     }

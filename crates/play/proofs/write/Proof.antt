@@ -11,7 +11,7 @@ use Rattle.model.specs.Calls.{begin}
 use Rattle.list.specs.declared.Kind.the-variants.{Byte}
 use Rattle.list.proofs.Values.{values-front}
 use Rattle.store.specs.Modelled.{modelled}
-use Rattle.store.proofs.Going.{gives-as}
+use Rattle.store.proofs.Laws.{gives-as}
 use Rattle.play.proofs.write.Statement.{statement}
 use Rattle.play.proofs.write.Tie as tie
 

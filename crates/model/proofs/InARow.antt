@@ -4,13 +4,13 @@ use mathlib.Core.Path.{_≡_, refl, ap, sym, _∙_}
 use mathlib.Core.List.{List}
 use lib.ListN.{replicate}
 use borrow.Author.Tests.{eq-eqb, ne-eqb}
 use Rattle.model.specs.Refusals.{stepNumber}
 use Rattle.model.specs.Calls.{Device, Outcome, outcome, view}
 use Rattle.model.specs.Calls as calls
 use Rattle.model.specs.Ledger.{step}
 use Rattle.model.specs.PowerCut.{call, run}
 use Rattle.model.proofs.Compare.{equal, differ, same}
-use Rattle.store.specs.Steps.{steps, StepsAreCalls}
+use Rattle.model.specs.Steps.{steps, StepsAreCalls}
 
 again : (d : Device) (image : List ℕ) → ¬ (calls.step d image .number ≡ 0) → call step (calls.step d image) ≡ calls.step d image
 unfolding call calls.step

@@ -1,4 +1,4 @@
--- `store::advance_by` meets its contract. The loop's invariant: the steps that are left give the outcome.
+-- `advance::advance_by` meets its contract. The loop's invariant: the steps that are left give the outcome.
 use borrow.Author.Needs.{needs}
 use native.Mathlib.Omega.{arith}
 use mathlib.Core.Path.{_≡_, refl, sym, _∙_}
@@ -6,11 +6,11 @@ use Prim.Native.Nat.{_-_, _≤_}
 use native.Mathlib.Nat.{sub-zero}
 use denote.Ref.{now}
 use lib.ListN.{length}
+use Rattle.model.specs.Steps.{steps}
 use Rattle.advance.specs.Advances.{parts}
-use Rattle.store.specs.Steps.{steps}
-use Rattle.store.proofs.Going.{row-ends, row-stops, row-goes-on}
-use Rattle.store.proofs.advance_by.Statement.{statement}
-use Rattle.store.proofs.advance_by.Tie as tie
+use Rattle.advance.proofs.Going.{row-ends, row-stops, row-goes-on}
+use Rattle.advance.proofs.advance_by.Statement.{statement}
+use Rattle.advance.proofs.advance_by.Tie as tie
 
 abbrev Inv-loop : tie.InvT-loop
 Inv-loop plan payload since image₀ count phase₀ stores₀ made₀ image phase stores made = (steps (count - made) (parts plan payload phase stores) image ≡ steps count (parts plan payload phase₀ stores₀) image₀)

@@ -5,12 +5,7 @@ use mathlib.Core.List.{List}
 use native.Mathlib.Omega.{arith}
 use borrow.Author.Tests.{eq-eqb, ne-eqb}
 use Rattle.model.specs.Calls.{Device, Outcome, outcome, step}
-use Rattle.store.specs.declared.Answer.{Answer}
-use Rattle.store.specs.Modelled.{Gives}
-use Rattle.store.specs.Steps.{steps}
-
-pub gives-as : {r : Answer} {left : List ℕ} {o o′ : Outcome} → o ≡ o′ → Gives r left o → Gives r left o′
-gives-as e g = rw e at g
+use Rattle.model.specs.Steps.{steps}
 
 module _ (count made : ℕ) (d : Device) (image : List ℕ) where
   pub row-ends : count ≤ made → steps (count - made) d image ≡ outcome 0 d image
