@@ -56,7 +56,7 @@ def main():
         print(f"  {name:24} {drive(meter, mode):.1f}")
     print("\nstack, bytes a function")
     for name, size in sorted(frames(meter).items()):
-        if name.startswith(("store::", "console::", "mirror::", "layout::", "brake::")):
+        if name.startswith(("store::", "console::", "mirror::", "lookup::", "layout::", "brake::")):
             print(f"  {name:24} {size}")
 
 

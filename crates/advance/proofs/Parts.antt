@@ -18,7 +18,7 @@ use Rattle.model.specs.Calls.{jobOf, viewOf, counted, next, imageAfter, cleanup
 use Rattle.model.proofs.RefusalLaws.{first-skip, first-stop, first-none, first-refused, first-passed, first-front, false-or}
 use Rattle.model.proofs.LayoutLaws.{length-stored}
 use Rattle.model.proofs.StoreLaws.{write-goes-on, write-ends, cleanup-goes-on, cleanup-ends}
-use Rattle.layout.proofs.Laws.{Room, room}
+use Rattle.lookup.proofs.Laws.{Room, room}
 use Rattle.mirror.specs.Ends.{Stores}
 use Rattle.advance.specs.declared.Advanced.{Advanced}
 use Rattle.advance.specs.Advances.{Advances}

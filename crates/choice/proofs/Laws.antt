@@ -13,8 +13,8 @@ use Rattle.model.specs.Layout.{copyA, copyB, marker, byte, width, offset, base,
 use Rattle.model.specs.Stores.{Store, store, writeStores, cleanupStores}
 use Rattle.model.specs.Calls.{next}
 use Rattle.model.proofs.StoreLaws.{next-A, next-to-A, next-B, next-to-B, next-OK, next-copy, next-settle}
-use Rattle.layout.specs.declared.Span.{Span}
-use Rattle.layout.specs.Spans.{spanOf}
+use Rattle.lookup.specs.declared.Span.{Span}
+use Rattle.lookup.specs.Spans.{spanOf}
 
 -- ---- a unit that was looked up
 module _ (p : Plan) (u : ℕ) (q : Span) (is : q ≡ spanOf p u) where

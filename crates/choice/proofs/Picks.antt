@@ -7,8 +7,8 @@ use Rattle.choice.specs.declared.Choice.{Choice}
 use Rattle.choice.specs.Picked.{At, Picked}
 use Rattle.model.specs.declared.Plan.{Plan}
 use Rattle.model.specs.Stores.{Store}
-use Rattle.layout.specs.declared.Span.{Span}
-use Rattle.layout.specs.Spans.{spanOf}
+use Rattle.lookup.specs.declared.Span.{Span}
+use Rattle.lookup.specs.Spans.{spanOf}
 
 module _ (span : Span) (f : ℕ → ℕ) (made : ℕ) (o : Plan → ℕ → Option Store) (r : Choice) (a x : ℕ) where
   module _ (i : span .base + a < span .end) (s : (p : Plan) (u : ℕ) → span ≡ spanOf p u → At p u (o p u) a x) where

@@ -11,8 +11,8 @@ use Rattle.model.specs.declared.Plan.{Plan}
 use Rattle.model.specs.Layout.{Cell, offset}
 use Rattle.model.specs.Refusals.{writeTotal, cleanupTotal}
 use Rattle.model.specs.Stores.{Store, store, writeStores, cleanupStores}
-use Rattle.layout.specs.declared.Span.{Span}
-use Rattle.layout.specs.Spans.{spanOf}
+use Rattle.lookup.specs.declared.Span.{Span}
+use Rattle.lookup.specs.Spans.{spanOf}
 
 -- how many stores were left
 pub record Left (total made left : ℕ) : Type 0 where

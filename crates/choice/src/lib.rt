@@ -2,9 +2,9 @@
 ghost use mathlib.Core.Path.{_≡_};
 ghost use Prim.Native.Nat.{_≤_};
 ghost use lib.ListN.{length};
-ghost use Rattle.layout.specs.Spans.{Sound};
+ghost use Rattle.lookup.specs.Spans.{Sound};
 ghost use Rattle.choice.specs.Picked.{Writes, Cleans};
-use layout::Span;
+use lookup::Span;
 use model::Direction;
 use model::Marker;
 

@@ -22,8 +22,8 @@ use Rattle.model.specs.Stores.{Store, store, tornCell, stored}
 use Rattle.model.specs.Calls.{jobOf, viewOf, next}
 use Rattle.model.proofs.Compare.{equal, differ, same}
 use Rattle.model.proofs.RefusalLaws.{first-skip, first-stop, first-none, plan-passed}
-use Rattle.layout.specs.declared.Span.{Span}
-use Rattle.layout.specs.Spans.{Spans}
+use Rattle.lookup.specs.declared.Span.{Span}
+use Rattle.lookup.specs.Spans.{Spans}
 use Rattle.layout.proofs.Laws.{plan-fine}
 
 -- ---- a picked store is the model's

@@ -14,8 +14,8 @@ use Rattle.model.specs.Layout.{marker, width, unitLength, base, get}
 use Rattle.model.specs.Refusals.{View, isReady, _when_, Refusal, first, deviceRow, readNumber, beginNumber}
 use Rattle.model.proofs.RefusalLaws.{first-skip, first-behind, first-front, first-refused, first-passed}
 use Rattle.model.proofs.LayoutLaws.{base-bound}
-use Rattle.layout.specs.Spans.{imageRow, Live}
-use Rattle.layout.proofs.Laws.{room}
+use Rattle.lookup.specs.Spans.{imageRow, Live}
+use Rattle.lookup.proofs.Laws.{room}
 use Rattle.search.proofs.Search.{marker-at}
 
 -- ---- begin's row and read's row are one: at the unit's own width 7 does not hold

@@ -1,14 +1,14 @@
 // The refusals: what a call answers by number, 0 or the lowest of document 01 that applies. Cut and inspect, which have 1 to 4
-// alone, ask `layout`.
+// alone, ask `lookup`.
 ghost use mathlib.Core.Path.{_≡_};
 ghost use mathlib.Core.List.{[], _∷_, _++_};
 ghost use mathlib.Core.Bool.{not, _||_};
 ghost use Rattle.model.specs.Refusals.{isCold, isReady, _when_, first, formatNumber, wakeNumber, stepNumber, readNumber, beginNumber};
 ghost use Rattle.model.specs.Calls.{jobOf, viewOf};
-ghost use Rattle.layout.specs.Spans.{imageRow};
+ghost use Rattle.lookup.specs.Spans.{imageRow};
 use layout::base_of;
-use layout::device_number;
 use layout::width_of;
+use lookup::device_number;
 use model::Marker;
 use model::Phase;
 use model::Plan;

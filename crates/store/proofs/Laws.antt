@@ -19,9 +19,9 @@ use Rattle.model.specs.Refusals.{isReady, first, deviceRow, inspectNumber, read
 use Rattle.model.specs.Marker.{tornBy}
 use Rattle.model.specs.Calls.{jobOf, viewOf, view, zeroPayload, padded, asBegun, begin, cut, imageAfter, Outcome, outcome, unlessRefused, noPlan, startAnswer, partUnlessRefused, inspection, inspect}
 use Rattle.model.proofs.RefusalLaws.{first-past, past, begin-says, width-bounds}
-use Rattle.layout.specs.declared.Span.{Span}
-use Rattle.layout.specs.Spans.{spanOf, Spans, Sound}
-use Rattle.layout.proofs.Laws.{room, span-sound, span-inside, looked-up}
+use Rattle.lookup.specs.declared.Span.{Span}
+use Rattle.lookup.specs.Spans.{spanOf, Spans, Sound}
+use Rattle.lookup.proofs.Laws.{room, span-sound, span-inside, looked-up}
 use Rattle.mirror.specs.Ends.{Stores}
 use Rattle.refusal.proofs.Laws.{live}
 use Rattle.search.specs.declared.Found.{Found}

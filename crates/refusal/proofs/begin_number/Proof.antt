@@ -8,7 +8,7 @@ use denote.Ref.{now}
 use borrow.Author.Tests.{le-leb, lt-leb, eq-eqb, ne-eqb}
 use borrow.Author.Needs.{needs}
 use Rattle.model.proofs.LayoutLaws.{unit-some}
-use Rattle.layout.proofs.Laws.{room}
+use Rattle.lookup.proofs.Laws.{room}
 use Rattle.model.specs.Layout.{width}
 use Rattle.model.specs.Refusals.{beginNumber}
 use Rattle.model.proofs.RefusalLaws.{first-stop, first-skip, first-none}

@@ -6,7 +6,7 @@ use denote.Ref.{now}
 use borrow.Author.Needs.{needs}
 use Rattle.model.specs.Refusals.{formatNumber, wakeNumber}
 use Rattle.model.proofs.RefusalLaws.{first-stop, first-skip, first-none}
-use Rattle.layout.proofs.Laws.{room}
+use Rattle.lookup.proofs.Laws.{room}
 use Rattle.refusal.proofs.Laws.{phase-refused, phase-passed, live}
 use Rattle.refusal.proofs.wake_number.Statement.{statement}
 use Rattle.refusal.proofs.wake_number.Tie as tie

@@ -3,7 +3,7 @@ use mathlib.Core.Path.{refl}
 use denote.Ref.{now}
 use Rattle.model.specs.Refusals.{formatNumber}
 use Rattle.model.specs.Calls.{format}
-use Rattle.layout.proofs.Laws.{room}
+use Rattle.lookup.proofs.Laws.{room}
 use Rattle.refusal.proofs.Laws.{live}
 use Rattle.store.proofs.Laws.{refused, accepted}
 use borrow.Author.Needs.{needs}

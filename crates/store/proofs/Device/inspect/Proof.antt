@@ -3,7 +3,7 @@ use denote.Ref.{now}
 use mathlib.Core.Path.{sym, _∙_}
 use mathlib.Core.List.{[]}
 use Rattle.model.specs.Refusals.{inspectNumber}
-use Rattle.layout.proofs.Laws.{room}
+use Rattle.lookup.proofs.Laws.{room}
 use Rattle.refusal.proofs.Laws.{live}
 use Rattle.store.proofs.Laws.{inspect-refused, inspect-says}
 use borrow.Author.Needs.{needs}

@@ -4,7 +4,7 @@ use denote.Ref.{now}
 use borrow.Author.Needs.{needs}
 use Rattle.model.specs.Refusals.{wakeNumber}
 use Rattle.model.specs.Calls.{wake, asWoken}
-use Rattle.layout.proofs.Laws.{room}
+use Rattle.lookup.proofs.Laws.{room}
 use Rattle.refusal.proofs.Laws.{live}
 use Rattle.store.specs.Modelled.{modelled}
 use Rattle.store.proofs.Laws.{refused, accepted}

@@ -1,23 +1,17 @@
--- A plan measured, and a unit of it looked up: what refusals 1 to 4 leave to be asked of it.
+-- A unit of a plan looked up: what refusals 1 to 4 leave to be asked of it.
 use Prim.Native.Nat.{ℕ, _+_, _<_, _≤_}
 use mathlib.Core.Path.{_≡_}
 use mathlib.Core.List.{List, [], _∷_, _++_}
 use mathlib.Core.Bool.{Bool, _||_}
 use lib.Dec.{ltb, leb}
 use lib.ListN.{length}
-use Rattle.layout.specs.declared.Measured.{Measured}
-use Rattle.layout.specs.declared.Span.{Span}
+use Rattle.lookup.specs.declared.Span.{Span}
 use Rattle.model.specs.declared.Phase.{Phase}
 use Rattle.model.specs.declared.Plan.{Plan}
 use Rattle.model.specs.Layout.{copyA, copyB, byte, width, unitLength, offset, base, total}
-use Rattle.model.specs.Refusals.{SHORT-IMAGE, BAD-JOB, Refusal, _when_, first, planRow, firstFour, startNumber}
+use Rattle.model.specs.Refusals.{SHORT-IMAGE, BAD-JOB, Refusal, _when_, first, planRow, firstFour}
 use Rattle.model.specs.Calls.{jobOf}
 use Rattle.model.proofs.RefusalLaws.{PlanOk}
-
-pub record Measures (p : Plan) (u : ℕ) (r : Measured) : Type 0 where
-  pub number : r .number ≡ startNumber p
-  pub total : r .number ≡ 0 → r .total ≡ total p
-  pub base : r .number ≡ 0 → u < p .count → r .base ≡ base p u
 
 -- where the parts of a unit lie
 abbrev pub spanOf : Plan → ℕ → Span

@@ -1,11 +1,11 @@
--- `layout::job_number` meets its contract: each test is one half of refusal 4's condition.
+-- `lookup::job_number` meets its contract: each test is one half of refusal 4's condition.
 use mathlib.Core.Path.{sym, _∙_}
 use mathlib.Core.List.{[]}
 use native.Mathlib.Omega.{arith}
 use borrow.Author.Tests.{le-leb, lt-leb}
 use Rattle.model.proofs.RefusalLaws.{first-stop, first-skip, first-none}
-use Rattle.layout.proofs.job_number.Statement.{statement}
-use Rattle.layout.proofs.job_number.Tie as tie
+use Rattle.lookup.proofs.job_number.Statement.{statement}
+use Rattle.lookup.proofs.job_number.Tie as tie
 
 returns : tie.Need-returns
 returns c = let a = c .before .before .args in

@@ -1,14 +1,14 @@
--- `layout::device_number` meets its contract: the plan's row first, then 3, then 4 by the phase.
+-- `lookup::device_number` meets its contract: the plan's row first, then 3, then 4 by the phase.
 use native.Mathlib.Omega.{arith}
 use mathlib.Core.Path.{sym, _∙_}
 use borrow.Author.Tests.{lt-ltb}
 use Rattle.model.specs.Layout.{total}
 use Rattle.model.specs.Refusals.{badJob, startNumber}
 use Rattle.model.proofs.RefusalLaws.{first-refused, first-stop, plan-passed}
-use Rattle.layout.proofs.Laws.{no-job, writing-job, cleaning-job}
+use Rattle.lookup.proofs.Laws.{no-job, writing-job, cleaning-job}
 use borrow.Author.Needs.{needs}
-use Rattle.layout.proofs.device_number.Statement.{statement}
-use Rattle.layout.proofs.device_number.Tie as tie
+use Rattle.lookup.proofs.device_number.Statement.{statement}
+use Rattle.lookup.proofs.device_number.Tie as tie
 
 measure-requires : tie.Need-measure-requires
 measure-requires c κs = search needs

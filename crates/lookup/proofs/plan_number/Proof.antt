@@ -1,7 +1,7 @@
--- `layout::plan_number` meets its contract.
+-- `lookup::plan_number` meets its contract.
 use borrow.Author.Needs.{needs}
-use Rattle.layout.proofs.plan_number.Statement.{statement}
-use Rattle.layout.proofs.plan_number.Tie as tie
+use Rattle.lookup.proofs.plan_number.Statement.{statement}
+use Rattle.lookup.proofs.plan_number.Tie as tie
 
 measure-requires : tie.Need-measure-requires
 measure-requires c κs = search needs

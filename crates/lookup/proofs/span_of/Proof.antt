@@ -1,13 +1,12 @@
--- `layout::span_of` meets its contract: the plan's row, then 3, then 4 for the unit, and where its parts lie.
+-- `lookup::span_of` meets its contract: the plan's row, then 3, then 4 for the unit, and where its parts lie.
 use native.Mathlib.Omega.{arith}
-use mathlib.Core.Path.{_≡_, sym, ap₂, _∙_}
-use Prim.Native.Nat.{_+_, _<_}
-use Rattle.model.specs.Layout.{copyB, byte, offset, unitLength}
+use mathlib.Core.Path.{refl, sym, _∙_}
+use Prim.Native.Nat.{_<_}
 use Rattle.model.proofs.RefusalLaws.{start-says, count-bounds}
-use Rattle.layout.proofs.Laws.{no-plan, no-room, no-unit, spans, base-small}
+use Rattle.lookup.proofs.Laws.{spanned, no-plan, no-room, no-unit, spans, base-small}
 use borrow.Author.Needs.{needs}
-use Rattle.layout.proofs.span_of.Statement.{statement}
-use Rattle.layout.proofs.span_of.Tie as tie
+use Rattle.lookup.proofs.span_of.Statement.{statement}
+use Rattle.lookup.proofs.span_of.Tie as tie
 
 measure-requires : tie.Need-measure-requires
 measure-requires c κs = search needs
@@ -69,10 +68,8 @@ returns-4 c = let a = c .before .before .before .before .before .before .before 
     let z = c .before .before .before .before .before .if1 .left in
     let w = c .before .width-of .ensures in
     let begins = m .base z (omega (arith, c .before .before .if3 .left)) in
-    let long : c .length-of .result ≡ unitLength (a .plan) (a .unit) = omega (arith, w, c .length-of .ensures) in
-    let second : 1 + c .before .width-of .result ≡ offset (a .plan) (a .unit) (byte copyB 0) = omega (arith, w) in
     spans (a .plan) (a .unit) (a .length) _ _ _ (m .number) z (m .total z) (omega (arith, c .before .before .before .before .if2 .left)) (omega (arith, c .before .before .if3 .left))
-    (λ i. record { base = begins i; end = ap₂ _+_ begins long i; a = 1; b = second i; width = w i; number = 0 })
+    (spanned (a .plan) (a .unit) _ refl begins (omega (arith, begins, w, c .length-of .ensures)) refl (omega (arith, w)) w)
 
 pub span-of-spec : {M : Type 1} → statement M
 span-of-spec =
