@@ -31,7 +31,7 @@ same-length c = search needs
 returns : tie.Need-returns Inv-loop μ-loop
 returns c = let a = c .before .before .before .before .before .before .before .before .before .args in
     let l = c .before .before .before .before .before .before .loop in
-    sym (row-stops (a .count) (l .made) (parts (a .plan) (now (a .payload)) (l .phase) (l .stores)) (l .image) (c .before .before .before .before .before .loop-test .taken) _ _ _ (c .before .before .before .advance .ensures) (c .if1 .taken)) ∙ l .inv .0
+    sym (row-stops (a .count) (l .made) (parts (a .plan) (now (a .payload)) (l .phase) (l .stores)) (l .image) (c .before .before .before .before .before .loop-test .taken) _ _ _ (c .before .before .before .advance .ensures) (λ z. absurd (omega (arith, c .if1 .taken, z)))) ∙ l .inv .0
 
 add-made : tie.Need-add-made Inv-loop μ-loop
 add-made c = search needs
@@ -42,7 +42,7 @@ loop-less c = search needs
 loop-again : tie.Need-loop-again Inv-loop μ-loop
 loop-again c = let a = c .before .before .before .before .before .before .before .before .before .args in
     let l = c .before .before .before .before .before .before .loop in
-    (sym (row-goes-on (a .count) (l .made) (parts (a .plan) (now (a .payload)) (l .phase) (l .stores)) (l .image) (c .before .before .before .before .before .loop-test .taken) _ _ _ (c .before .before .before .advance .ensures) (c .if1 .left)) ∙ l .inv .0, omega arith, search needs)
+    (sym (row-goes-on (a .count) (l .made) (parts (a .plan) (now (a .payload)) (l .phase) (l .stores)) (l .image) (c .before .before .before .before .before .loop-test .taken) _ _ _ (c .before .before .before .advance .ensures) (omega (arith, c .if1 .left))) ∙ l .inv .0, omega arith, search needs)
 
 same-length-2 : tie.Need-same-length-2 Inv-loop μ-loop
 same-length-2 c = search needs
