@@ -5,8 +5,8 @@ ghost use lib.ListN.{length};
 ghost use Rattle.lookup.specs.Spans.{Sound};
 ghost use Rattle.choice.specs.Picked.{Writes, Cleans};
 use lookup::Span;
+use marker::Marker;
 use model::Direction;
-use model::Marker;
 
 // The store that comes next in a unit that was looked up: the offset in the unit's span, the byte, and how many stores of the job
 // were left, 2 for more than 1.

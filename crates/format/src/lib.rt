@@ -8,7 +8,7 @@ ghost use Rattle.model.proofs.RefusalLaws.{PlanOk};
 ghost use Rattle.model.specs.Marker.{OK};
 ghost use Rattle.model.specs.Calls.{padded};
 use layout::unit_length;
-use model::Marker;
+use marker::Marker;
 use model::Plan;
 
 // Zeros in all of a span.

@@ -3,11 +3,10 @@ use Prim.Native.Nat.{ℕ, zero, suc, _+_, _*_, _/_, _%_, _≤_, _<_}
 use mathlib.Core.Path.{_≡_, refl, ap, sym, _∙_}
 use mathlib.Core.Bool.{Bool, true, false, cond}
 use native.Mathlib.Omega.{arith}
-use lib.Dec.{eqb, ltb}
-use borrow.Author.Tests.{ne-eqb, lt-ltb}
+use lib.Dec.{eqb}
+use borrow.Author.Tests.{ne-eqb, lt-leb}
 use Rattle.model.specs.declared.Direction.the-variants.{AToB, BToA}
-use Rattle.model.specs.declared.Marker.the-variants.{Clean, WritingToA, WritingToB, Corrupted, Foreign}
-use Rattle.model.specs.Marker.{OK, A, B, FOREIGN, meaning, isForeign, way, direction, tornBits, torn}
+use Rattle.model.specs.Marker.{OK, A, B, FOREIGN, isForeign, direction, tornBits, torn}
 
 -- the lowest bit of a torn marker is the new code's or the old marker's
 torn-lowest : (old new m : ℕ) → torn old new m % 2 ≡ cond (eqb (m % 2) 1) (new % 2) (old % 2)
@@ -27,29 +26,16 @@ torn-A-to-B m e = go (eqb (m % 2) 1) (sym (ap (λ (x : ℕ). x % 2) e) ∙ torn-
     go false h = omega arith
 
 pub direction-A : (m : ℕ) → m ≡ A → direction m ≡ BToA
-unfolding direction meaning
+unfolding direction
 direction-A m e = rw e
 
 pub direction-other : (m : ℕ) → ¬ (m ≡ A) → direction m ≡ AToB
-unfolding direction meaning
-direction-other m h = rw (ne-eqb m A h) (go (eqb m OK) (eqb m B) (ltb m FOREIGN))
-  where
-    go : (t s r : Bool) → way (cond t Clean (cond s WritingToB (cond r Corrupted Foreign))) ≡ AToB
-    go true s r = refl
-    go false true r = refl
-    go false false true = refl
-    go false false false = refl
+unfolding direction
+direction-other m h = rw (ne-eqb m A h)
 
 -- ---- Ticket 4: a marker of at most 7 isn't foreign, and torn by a code it stays so
-pub not-foreign : (m : ℕ) → m ≤ 7 → isForeign (meaning m) ≡ false
-unfolding meaning
-not-foreign m h = rw (lt-ltb m FOREIGN (omega arith)) (go (eqb m OK) (eqb m A) (eqb m B))
-  where
-    go : (t s r : Bool) → isForeign (cond t Clean (cond s WritingToA (cond r WritingToB Corrupted))) ≡ false
-    go true s r = refl
-    go false true r = refl
-    go false false true = refl
-    go false false false = refl
+pub not-foreign : (m : ℕ) → m ≤ 7 → isForeign m ≡ false
+not-foreign m h = lt-leb FOREIGN m (omega arith)
 
 bits-zero : (n m : ℕ) → tornBits n 0 0 m ≡ 0
 unfolding tornBits

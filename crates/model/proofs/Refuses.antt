@@ -6,11 +6,11 @@ use mathlib.Core.Bool.{Bool, true, false, cond, not, _||_, true≢false, false�
 use native.Mathlib.Omega.{arith}
 use lib.Dec.{eqb, ltb, leb}
 use lib.ListN.{length}
-use borrow.Author.Tests.{ltb-true, leb-true, eqb-true, eqb-false, not-true, lt-ltb, le-ltb, le-leb, eq-eqb, ne-eqb}
+use borrow.Author.Tests.{ltb-true, leb-true, eqb-true, eqb-false, not-true, lt-ltb, le-leb, eq-eqb, ne-eqb}
 use Rattle.model.specs.declared.Plan.{Plan}
 use Rattle.model.specs.declared.Phase.{Phase}
 use Rattle.model.specs.declared.Phase.the-variants.{Cold, Ready, Writing, Recovering}
-use Rattle.model.specs.Marker.{OK, A, B, FOREIGN, meaning, isForeign}
+use Rattle.model.specs.Marker.{OK, FOREIGN, isForeign}
 use Rattle.model.specs.Layout.{marker, width, total, get}
 use Rattle.model.specs.Refusals.{isCold, isReady, writeTotal, cleanupTotal, badCount, badWidths, badJob, Refusal, _when_, first, planRow, deviceRow, anyForeign, startNumber, formatNumber, beginNumber, stepNumber, wakeNumber, cutNumber, readNumber, inspectNumber}
 use Rattle.model.specs.Calls.{Device, Outcome, view, jobOf, unlessRefused, startAnswer}
@@ -170,17 +170,15 @@ not-ready-from Ready h = absurd (h refl)
 not-ready-from (Writing u made) h = refl
 not-ready-from (Recovering u made way) h = refl
 
-foreign-is : (m : ℕ) → isForeign (meaning m) ≡ true → 8 ≤ m
+foreign-is : (m : ℕ) → isForeign m ≡ true → 8 ≤ m
 foreign-is m h =
     elim (order m 8) [
       | below l ↦ absurd (true≢false (sym h ∙ not-foreign m (omega arith)))
       | above l ↦ l
     ]
 
-is-foreign : (m : ℕ) → 8 ≤ m → isForeign (meaning m) ≡ true
-unfolding meaning
-is-foreign m h =
-    rw (ne-eqb m OK (λ e. absurd (omega arith)), ne-eqb m A (λ e. absurd (omega arith)), ne-eqb m B (λ e. absurd (omega arith)), le-ltb m FOREIGN (omega arith))
+is-foreign : (m : ℕ) → 8 ≤ m → isForeign m ≡ true
+is-foreign m h = le-leb FOREIGN m (omega arith)
 
 -- ---- 3 and 4
 module _ (d : Device) (image : List ℕ) where
@@ -296,7 +294,7 @@ module _ (d : Device) (image : List ℕ) where
   unfolding anyForeign get
   foreign-to zero l h = absurd (false≢true h)
   foreign-to (suc n) l h =
-      either (BadWake d image 14) (isForeign (meaning (mark n))) (anyForeign mark n)
+      either (BadWake d image 14) (isForeign (mark n)) (anyForeign mark n)
       (λ q. foreign n (omega arith) (foreign-is (mark n) q))
       (foreign-to n (omega arith))
       h
@@ -306,8 +304,8 @@ module _ (d : Device) (image : List ℕ) where
   foreign-from u zero l h = absurd (omega arith)
   foreign-from u (suc n) l h =
       elim (same u n) [
-        | equal e ↦ or-left (isForeign (meaning (mark n))) _ (is-foreign (mark n) (rw e at h))
-        | differ q ↦ or-right (isForeign (meaning (mark n))) _ (foreign-from u n (omega arith) h)
+        | equal e ↦ or-left (isForeign (mark n)) _ (is-foreign (mark n) (rw e at h))
+        | differ q ↦ or-right (isForeign (mark n)) _ (foreign-from u n (omega arith) h)
       ]
 
   wake-lowest : Lowest (BadWake d image) (wakeNumber (view d image))

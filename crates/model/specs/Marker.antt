@@ -1,11 +1,9 @@
 -- Document 01, 'Marker byte', and what a power cut leaves of a marker ('Stores, in order').
 use Prim.Native.Nat.{ℕ, zero, suc, _+_, _*_, _/_, _%_}
-use mathlib.Core.Bool.{Bool, true, false, cond}
-use lib.Dec.{eqb, ltb}
+use mathlib.Core.Bool.{Bool, cond}
+use lib.Dec.{eqb, leb}
 use Rattle.model.specs.declared.Direction.{Direction}
 use Rattle.model.specs.declared.Direction.the-variants.{AToB, BToA}
-use Rattle.model.specs.declared.Marker.{Marker}
-use Rattle.model.specs.declared.Marker.the-variants.{Clean, WritingToA, WritingToB, Corrupted, Foreign}
 
 -- "OK is 1, A ("writing to A") is 2, B ("writing to B") is 4."
 abbrev pub OK : ℕ
@@ -21,30 +19,13 @@ B = 4
 abbrev pub FOREIGN : ℕ
 FOREIGN = 8
 
--- "Any other byte is X, corrupted", below FOREIGN.
-unfoldable pub meaning : ℕ → Marker
-meaning byte =
-    cond (eqb byte OK) Clean
-    (cond (eqb byte A) WritingToA (cond (eqb byte B) WritingToB (cond (ltb byte FOREIGN) Corrupted Foreign)))
+abbrev pub isForeign : ℕ → Bool
+isForeign byte = leb FOREIGN byte
 
-abbrev pub isForeign : Marker → Bool
-isForeign Clean = false
-isForeign WritingToA = false
-isForeign WritingToB = false
-isForeign Corrupted = false
-isForeign Foreign = true
-
--- "A copies B to A; B and X copy A to B." No cleanup begins at OK. Ticket 4: "step goes on treating it as X"
-abbrev pub way : Marker → Direction
-way Clean = AToB
-way WritingToA = BToA
-way WritingToB = AToB
-way Corrupted = AToB
-way Foreign = AToB
-
--- "The marker read when the unit's cleanup begins sets the direction."
+-- "The marker read when the unit's cleanup begins sets the direction. A copies B to A; B and X copy A to B." No cleanup begins at
+-- OK. Ticket 4: "step goes on treating it as X"
 unfoldable pub direction : ℕ → Direction
-direction byte = way (meaning byte)
+direction byte = cond (eqb byte A) BToA AToB
 
 -- "A torn marker takes each bit from the new code where m has a 1 and from the old marker where m has a 0":
 -- the lowest n bits of it, the lowest first.

@@ -9,7 +9,7 @@ use Rattle.model.specs.declared.Plan.{Plan}
 pub use Rattle.model.specs.Numbers.{BAD-COUNT, BAD-WIDTH, SHORT-IMAGE, BAD-JOB, WRONG-PHASE, NO-UNIT, WRONG-SIZE, BAD-MARKER, FOREIGN-MARKER}
 unfoldable pub use Rattle.model.specs.Plans.{badCount, badWidths}
 use Rattle.model.specs.Plans.{width}
-use Rattle.model.specs.Marker.{OK, meaning, isForeign}
+use Rattle.model.specs.Marker.{OK, isForeign}
 
 -- A phase without its direction: "a phase (as above, without direction)" is what the ledger keeps.
 pub data Job : Type 0 where
@@ -86,7 +86,7 @@ formatNumber v = first (deviceRow v ++ (WRONG-PHASE when not (isCold (v .job)) �
 -- Ticket 4: "14 when any unit's marker is foreign; wake tests it after 5."
 unfoldable pub anyForeign : (ℕ → ℕ) → ℕ → Bool
 anyForeign marker zero = false
-anyForeign marker (suc k) = isForeign (meaning (marker k)) || anyForeign marker k
+anyForeign marker (suc k) = isForeign (marker k) || anyForeign marker k
 
 unfoldable pub wakeNumber : View → ℕ
 wakeNumber v =

@@ -9,7 +9,7 @@ ghost use Rattle.lookup.specs.Spans.{imageRow};
 use layout::base_of;
 use layout::width_of;
 use lookup::device_number;
-use model::Marker;
+use marker::Marker;
 use model::Phase;
 use model::Plan;
 use model::refusals::BAD_MARKER;

@@ -10,7 +10,7 @@ use borrow.Author.Tests.{eq-eqb, ne-eqb}
 use Rattle.model.specs.declared.Plan.{Plan}
 use Rattle.model.specs.declared.Phase.{Phase}
 use Rattle.model.specs.declared.Phase.the-variants.{Ready, Recovering}
-use Rattle.model.specs.Marker.{OK, meaning, isForeign, direction}
+use Rattle.model.specs.Marker.{OK, isForeign, direction}
 use Rattle.model.specs.Refusals.{anyForeign}
 use Rattle.model.specs.Layout.{marker, base, get}
 use Rattle.model.specs.Calls.{lowestBad, cleanupOf, cleanupFrom}
@@ -73,16 +73,16 @@ module _ (p : Plan) (image : List ℕ) (n b : ℕ) (more : 0 < n) (is : b ≡ ba
   abbrev markers : ℕ → ℕ
   markers u = get p image u marker
 
-  foreign-more : anyForeign markers n ≡ (isForeign (meaning (getD image b 0)) || anyForeign markers (n - 1))
+  foreign-more : anyForeign markers n ≡ (isForeign (getD image b 0) || anyForeign markers (n - 1))
   unfolding anyForeign
   foreign-more =
       let one : n ≡ suc (n - 1) = omega arith in
-      ap (anyForeign markers) one ∙ ap (λ (m : ℕ). isForeign (meaning m) || anyForeign markers (n - 1)) (sym (marker-at p image (n - 1) b is))
+      ap (anyForeign markers) one ∙ ap (λ (m : ℕ). isForeign m || anyForeign markers (n - 1)) (sym (marker-at p image (n - 1) b is))
 
-  pub foreign-found : isForeign (meaning (getD image b 0)) ≡ true → true ≡ anyForeign markers n
+  pub foreign-found : isForeign (getD image b 0) ≡ true → true ≡ anyForeign markers n
   foreign-found e = sym (foreign-more ∙ rw e)
 
-  pub foreign-passed : isForeign (meaning (getD image b 0)) ≡ false → anyForeign markers (n - 1) ≡ anyForeign markers n
+  pub foreign-passed : isForeign (getD image b 0) ≡ false → anyForeign markers (n - 1) ≡ anyForeign markers n
   foreign-passed e = sym (foreign-more ∙ rw e)
 
 pub foreign-none : (p : Plan) (image : List ℕ) (n : ℕ) → n ≤ 0 → false ≡ anyForeign (λ u. get p image u marker) n

@@ -10,10 +10,10 @@ ghost use Rattle.model.specs.Calls.{cleanupFrom};
 ghost use Rattle.search.specs.Found.{lowestFrom, found};
 use layout::base_of;
 use layout::unit_length;
-use model::Marker;
+use marker::Marker;
+use marker::direction_of;
 use model::Phase;
 use model::Plan;
-use model::direction_of;
 
 // What the search found: a unit whose marker isn't OK, with that marker, or nothing.
 pub enum Found {

@@ -5,7 +5,8 @@ use denote.Ref.{now}
 use Prim.Native.Nat.{_-_, _≤_}
 use mathlib.Core.Path.{_≡_, refl, sym, ap, _∙_}
 use Rattle.model.specs.Layout.{marker, get}
-use Rattle.model.specs.Marker.{isForeign}
+use Rattle.marker.specs.Meaning.{saysForeign}
+use Rattle.marker.proofs.Laws.{meaning-foreign}
 use Rattle.model.specs.Refusals.{anyForeign}
 use Rattle.model.proofs.RefusalLaws.{count-bounds}
 use Rattle.model.proofs.LayoutLaws.{unit-some, base-bound}
@@ -43,7 +44,7 @@ is-foreign-requires c κs = search needs
 returns : tie.Need-returns Inv-loop μ-loop
 returns c = let a = c .before .before .before .before .before .before .before .before .args in
     let h = c .before .before .before .before .before .before .loop in
-    let is = sym (c .before .is-foreign .ensures ∙ ap isForeign (c .before .before .classify .ensures)) in
+    let is = sym (c .before .is-foreign .ensures ∙ ap saysForeign (c .before .before .classify .ensures) ∙ meaning-foreign _) in
     foreign-found (a .plan) (now (a .image)) (h .units) _ (c .before .before .before .before .before .loop-test .taken) (c .before .before .before .before .base-of .ensures .0) (is ∙ c .if1 .taken) ∙ h .inv .1
 
 loop-less : tie.Need-loop-less Inv-loop μ-loop
@@ -52,7 +53,7 @@ loop-less c = search needs
 loop-again : tie.Need-loop-again Inv-loop μ-loop
 loop-again c = let a = c .before .before .before .before .before .before .before .before .args in
     let h = c .before .before .before .before .before .before .loop in
-    let is = sym (c .before .is-foreign .ensures ∙ ap isForeign (c .before .before .classify .ensures)) in (
+    let is = sym (c .before .is-foreign .ensures ∙ ap saysForeign (c .before .before .classify .ensures) ∙ meaning-foreign _) in (
       omega (arith, h .inv .0),
       foreign-passed (a .plan) (now (a .image)) (h .units) _ (c .before .before .before .before .before .loop-test .taken) (c .before .before .before .before .base-of .ensures .0) (is ∙ c .if1 .left) ∙ h .inv .1,
     )

@@ -1,9 +1,10 @@
 -- `Marker::classify` meets its contract: each arm knows which codes the byte is and isn't.
 use borrow.Author.Tests.{ne-eqb, lt-ltb, le-ltb}
 use native.Mathlib.Omega.{arith}
-use Rattle.model.specs.Marker.{FOREIGN, meaning}
-use Rattle.model.proofs.Marker.classify.Statement.{statement}
-use Rattle.model.proofs.Marker.classify.Tie as tie
+use Rattle.model.specs.Marker.{FOREIGN}
+use Rattle.marker.specs.Meaning.{meaning}
+use Rattle.marker.proofs.Marker.classify.Statement.{statement}
+use Rattle.marker.proofs.Marker.classify.Tie as tie
 
 returns : tie.Need-returns
 unfolding meaning
