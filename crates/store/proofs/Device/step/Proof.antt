@@ -1,15 +1,20 @@
--- `Device::step` meets its contract. No call is named here, so that another one in its place is refused for what it does.
-use denote.Ref.{now}
-use Rattle.model.specs.Calls.{step}
-use Rattle.store.specs.Modelled.{modelled}
+-- `Device::step` meets its contract.
 use Rattle.store.proofs.Laws.{gives}
 use borrow.Author.Needs.{needs}
 use Rattle.store.proofs.Device.step.Statement.{statement}
 use Rattle.store.proofs.Device.step.Tie as tie
 
+slice-aggregate-advance : tie.Need-slice-aggregate-advance
+slice-aggregate-advance c = search needs
+
+advance-requires : tie.Need-advance-requires
+advance-requires c κs = search needs
+
+same-length : tie.Need-same-length
+same-length c = search needs
+
 returns : tie.Need-returns
-returns c = let a = c .before .before .before .before .before .before .before .before .args in
-    gives _ _ _ (step (modelled (a .self)) (now (a .image))) (search needs)
+returns c = gives _ _ _ _ (c .before .before .advance .ensures)
 
 pub step-spec : {M : Type 1} → statement M
-step-spec = tie.close (tie.spec (λ c. search needs) (λ c κs. search needs) (λ c. search needs) returns)
+step-spec = tie.close (tie.spec slice-aggregate-advance advance-requires same-length returns)
