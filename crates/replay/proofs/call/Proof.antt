@@ -1,7 +1,7 @@
 -- `replay::call` meets its contract, by the kind.
 use borrow.Author.Tests.{eq-eqb, ne-eqb}
 use Rattle.model.specs.PowerCut.{call}
-use Rattle.replay.specs.Encoding.{callOf}
+use Rattle.recovery.specs.Encoding.{callOf}
 use borrow.Author.Needs.{needs}
 use Rattle.replay.proofs.call.Statement.{statement}
 use Rattle.replay.proofs.call.Tie as tie

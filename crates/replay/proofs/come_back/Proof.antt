@@ -2,7 +2,7 @@
 use mathlib.Core.Path.{ap, _∙_}
 use denote.Ref.{now}
 use Rattle.model.specs.Calls as calls
-use Rattle.replay.proofs.Lived.{idle-steps, rested, mended}
+use Rattle.recovery.proofs.Lived.{idle-steps, rested, mended}
 use borrow.Author.Needs.{needs}
 use Rattle.replay.proofs.come_back.Statement.{statement}
 use Rattle.replay.proofs.come_back.Tie as tie

@@ -1,7 +1,7 @@
 -- `replay::outage` meets its contract: the power-cut theorem over the answers of its two halves.
 use denote.Ref.{now}
-use Rattle.replay.specs.Encoding.{callsOf}
-use Rattle.replay.proofs.Lived.{restored}
+use Rattle.recovery.specs.Encoding.{callsOf}
+use Rattle.recovery.proofs.Lived.{restored}
 use borrow.Author.Needs.{needs}
 use Rattle.replay.proofs.outage.Statement.{statement}
 use Rattle.replay.proofs.outage.Tie as tie

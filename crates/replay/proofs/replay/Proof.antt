@@ -8,8 +8,8 @@ use denote.Ref.{now}
 use Rattle.model.specs.Calls.{outcome}
 use Rattle.model.specs.PowerCut.{run}
 use Rattle.store.specs.Modelled.{modelled}
-use Rattle.replay.specs.Encoding.{callsFrom}
-use Rattle.replay.proofs.Laws.{ended, stopped, turn, ends}
+use Rattle.recovery.specs.Encoding.{callsFrom}
+use Rattle.recovery.proofs.Laws.{ended, stopped, turn, ends}
 use Rattle.replay.proofs.replay.Statement.{statement}
 use Rattle.replay.proofs.replay.Tie as tie
 

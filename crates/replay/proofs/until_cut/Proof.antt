@@ -1,7 +1,7 @@
 -- `replay::until_cut` meets its contract: a list and the cut that closes it.
 use denote.Ref.{now}
-use Rattle.replay.specs.Encoding.{callsOf}
-use Rattle.replay.proofs.Lived.{cut-off}
+use Rattle.recovery.specs.Encoding.{callsOf}
+use Rattle.recovery.proofs.Lived.{cut-off}
 use borrow.Author.Needs.{needs}
 use Rattle.replay.proofs.until_cut.Statement.{statement}
 use Rattle.replay.proofs.until_cut.Tie as tie

@@ -13,7 +13,7 @@ use Rattle.model.specs.PowerCut.{call, run}
 use Rattle.store.specs.declared.Answer.{Answer}
 use Rattle.store.specs.Modelled.{modelled, Gives}
 use Rattle.store.proofs.Laws.{gives-as}
-use Rattle.replay.specs.Encoding.{two, callOf, unitIn, sizeIn, callsFrom}
+use Rattle.recovery.specs.Encoding.{two, callOf, unitIn, sizeIn, callsFrom}
 
 -- ---- playing
 pub same-call : (c : Call) (n : ℕ) (d : Device) (image : List ℕ) → call c (outcome n d image) ≡ call c (outcome 0 d image)

@@ -12,7 +12,7 @@ use Rattle.model.specs.Marker.{OK}
 use Rattle.model.specs.Layout.{Copy, marker, width, total, get, copyOf}
 use Rattle.model.specs.Ledger.{Ledger, cut, opening, after}
 use Rattle.store.specs.declared.Answer.{Answer}
-use Rattle.replay.specs.Encoding.{callsOf}
+use Rattle.recovery.specs.Encoding.{callsOf}
 
 -- "A plan has a count k, 1 to 8 .. A width w is 1 to 256 bytes. .. The image is .. at least as long as all units together."
 pub record Fits (p : Plan) (image : List ℕ) : Type 0 where

@@ -7,8 +7,8 @@ use native.Mathlib.Nat.{div-add-mod'}
 use lib.ListN.{length, length-append}
 use lib.Seq.{take-append-seam, drop-append-seam}
 use Rattle.model.specs.Ledger.{Call, begin, step, cut, wake}
-use Rattle.replay.specs.Encoding.{callOf, callsFrom, callsOf, encoded, bytesOfCall, bytesOf, Bytes, Handed, Encodes}
-use Rattle.replay.proofs.Laws.{skip, whole}
+use Rattle.recovery.specs.Encoding.{callOf, callsFrom, callsOf, encoded, bytesOfCall, bytesOf, Bytes, Handed, Encodes}
+use Rattle.recovery.proofs.Laws.{skip, whole}
 
 decoded : (kind u : ℕ) (own rest : List ℕ) → callsOf (encoded kind u own ++ rest) ≡ callOf kind u own ∷ callsOf rest
 unfolding callsFrom

@@ -34,8 +34,8 @@ use Rattle.model.proofs.InARow.{steps-run}
 use Rattle.store.specs.declared.Answer.{Answer}
 use Rattle.store.specs.Modelled.{modelled, Gives, Starts}
 use Rattle.store.proofs.Laws.{gives-as}
-use Rattle.replay.specs.Outage.{Fits, repairSteps, Restored}
-use Rattle.replay.proofs.Laws.{same-call, gave}
+use Rattle.recovery.specs.Outage.{Fits, repairSteps, Restored}
+use Rattle.recovery.proofs.Laws.{same-call, gave}
 
 -- ---- up to the cut
 run-snoc : (cs : List Call) (c : Call) (o : Outcome) → run (cs ++ (c ∷ [])) o ≡ call c (run cs o)
