@@ -4,6 +4,7 @@ import subprocess
 import sys
 
 ROUNDS = 40
+LIBRARY = "marker layout lookup choice mirror search format refusal advance store console brake".split()
 
 
 def instructions(program, units, width, mode, unit, count):
@@ -56,7 +57,7 @@ def main():
         print(f"  {name:24} {drive(meter, mode):.1f}")
     print("\nstack, bytes a function")
     for name, size in sorted(frames(meter).items()):
-        if name.startswith(("store::", "console::", "mirror::", "lookup::", "layout::", "brake::")):
+        if name.split("::")[0] in LIBRARY:
             print(f"  {name:24} {size}")
 
 
