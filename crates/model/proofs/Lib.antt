@@ -12,5 +12,6 @@ pub mod LedgerLaws
 pub mod Invariant
 pub mod Keeps
 pub mod Theorem
+pub mod Wear
 pub mod Restart
 pub mod InARow

@@ -10,6 +10,7 @@ pub mod PowerCut
 pub mod Restart
 pub mod Steps
 pub mod Foreign
+pub mod Wear
 pub mod Drive
 pub mod Cases
 pub mod Edges
