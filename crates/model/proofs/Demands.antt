@@ -7,7 +7,7 @@ use mathlib.Core.Bool.{Bool, true, false, cond, not, _||_, true≢false}
 use native.Mathlib.Omega.{arith}
 use lib.Dec.{eqb, ltb, leb}
 use lib.ListN.{length, getD, replicate, length-set, length-append, length-replicate, List·getD-append}
-use lib.Seq.{getD-set-same, getD-set-other, getD-drop, getD-append-add}
+use lib.Seq.{getD-set-same, getD-set-other, getD-drop, getD-append-add, take-all}
 use borrow.Author.Tests.{ne-eqb, lt-ltb, le-ltb, leb-false, ltb-false}
 use Rattle.model.specs.declared.Plan.{Plan}
 use Rattle.model.specs.declared.Direction.{Direction}
@@ -16,17 +16,19 @@ use Rattle.model.specs.declared.Phase.{Phase}
 use Rattle.model.specs.declared.Phase.the-variants.{Cold, Ready, Writing, Recovering}
 use Rattle.model.specs.Marker.{A, direction, completed, tornBy, tornBits, torn}
 use Rattle.model.specs.Layout.{copyA, copyB, Cell, marker, byte, InUnit, width, base, total, place, get, put, copyOf, formatted}
-use Rattle.model.specs.Refusals.{writeTotal, cleanupTotal, badJob, isCold, isReady, first, startNumber, formatNumber, beginNumber, stepNumber, wakeNumber, cutNumber, readNumber, inspectNumber}
+use Rattle.model.specs.Refusals.{writeTotal, cleanupTotal, badJob, isCold, isReady, first, startNumber, formatNumber, beginNumber, stepNumber, wakeNumber, cutNumber, readNumber, inspectNumber, rideNumber, totalNumber}
+use Rattle.model.specs.Turns.{amount, plus}
 use Rattle.model.specs.Stores.{Store, store, source, target, tornCell, stored}
-use Rattle.model.specs.Calls.{Device, Outcome, outcome, view, unlessRefused, startAnswer, jobOf, next, imageAfter, phaseAfter, cleanupOf, cleanupFrom, lowestBad, inspection, counted, mostStores, padded, asFormatted, asBegun, asStepped, asWoken, asCut, partUnlessRefused}
+use Rattle.model.specs.Calls.{Device, Outcome, outcome, view, unlessRefused, startAnswer, jobOf, next, imageAfter, phaseAfter, cleanupOf, cleanupFrom, lowestBad, inspection, counted, mostStores, padded, heldIn, totalUnlessRefused, asFormatted, asBegun, asStepped, asWoken, asCut, partUnlessRefused}
 use Rattle.model.specs.Calls as calls
 use Rattle.model.specs.Drive.{driveNumber, drive, driveUnlessRefused}
-use Rattle.model.specs.Demands.{Lies, at, Does, Starts, OneByte, Formats, Begins, WriteStore, markerA, toA, markerB, toB, markerOK, CleanupStore, NextStore, ofWrite, ofCleanup, Way, fromA, fromB, Cleans, PhaseAfter, writing, written, cleaning, cleaned, Counts, more, most, Steps, Wakes, bit, Torn, data-byte, mixed, Tears, CutImage, Cuts, Reads, Inspects, EveryCall, Drives, EveryDrive}
+use Rattle.model.specs.Demands.{Lies, at, Does, Starts, OneByte, Formats, Begins, Rides, WriteStore, markerA, toA, markerB, toB, markerOK, CleanupStore, NextStore, ofWrite, ofCleanup, Way, fromA, fromB, Cleans, PhaseAfter, writing, written, cleaning, cleaned, Counts, more, most, Steps, Wakes, bit, Torn, data-byte, mixed, Tears, CutImage, Cuts, Reads, Totals, Inspects, EveryCall, Drives, EveryDrive}
 use Rattle.model.specs.Demands as demands
 use Rattle.model.proofs.Compare.{below, above, order, equal, differ, same}
 use Rattle.model.proofs.MarkerLaws.{direction-A, direction-other, bits-more}
 use Rattle.model.proofs.RefusalLaws.{first-past, first-skip, first-stop, first-none, or-false, false-or, PlanOk, Past, past, format-says, begin-says, width-bounds}
 use Rattle.model.proofs.LayoutLaws.{place-bound, copy-length, copy-byte, get-formatted, length-formatted, rest-formatted}
+use Rattle.model.proofs.TurnLaws.{plus-size, plus-small, plus-amount, amount-first, held-amount, ride-says, ride-begins}
 use Rattle.model.proofs.StoreLaws.{next-A, next-to-A, next-B, next-to-B, next-OK, next-copy, next-settle, write-goes-on, write-ends, cleanup-goes-on, cleanup-ends}
 use Rattle.model.proofs.InspectLaws.{Lowest, lowest-among, Names, names-lowest}
 
@@ -138,6 +140,24 @@ begins d image u payload e =
           ∙ getD-append-add payload (replicate (256 - length payload) 0) (i - length payload) 0
           ∙ zeros-at (256 - length payload) (i - length payload);
       image′ = refl;
+    }
+
+-- ---- Ride.
+rides : (d : Device) (image : List ℕ) (turns : ℕ) → rideNumber (view d image) (heldIn d image 0) turns ≡ 0
+    → Rides d image turns (outcome 0 (asBegun 0 (padded (plus (heldIn d image 0) turns)) d) image)
+rides d image turns e =
+    let before : List ℕ = heldIn d image 0 in
+    let bytes : List ℕ = plus before turns in
+    let size : length bytes ≡ 8 = plus-size before turns in
+    record {
+      bytes = bytes;
+      begins = begins d image 0 bytes (ride-begins (view d image) before turns e);
+      size = size;
+      small = λ i h. plus-small before turns i;
+      sum = sym (amount-first 8 bytes)
+          ∙ ap amount (take-all 8 bytes (omega (arith, size)))
+          ∙ plus-amount before turns (ride-says (view d image) before turns e .room)
+          ∙ ap (λ (n : ℕ). n + turns) (held-amount (d .plan) image 0);
     }
 
 -- ---- The next store of a device that refusals 1 to 4 let pass.
@@ -389,6 +409,14 @@ reads d image u = go (readNumber (view d image) u) refl
           bytes = λ z. absurd (omega (arith, z, e));
         }
 
+totals : (d : Device) (image : List ℕ) (u : ℕ) → Totals d image u (calls.totalOf d image u)
+unfolding calls.totalOf
+totals d image u = go (totalNumber (view d image) u) refl
+  where
+    go : (n : ℕ) → totalNumber (view d image) u ≡ n → Totals d image u (totalUnlessRefused n (amount (heldIn d image u)))
+    go zero e = record { number = sym e; refused = λ q. absurd (q refl); accepted = λ z. held-amount (d .plan) image u }
+    go (suc n) e = record { number = sym e; refused = λ q. refl; accepted = λ z. absurd (omega arith) }
+
 -- ---- Inspect.
 inspects : (d : Device) (image : List ℕ) → Inspects d image (calls.inspect d image)
 unfolding calls.inspect get
@@ -400,7 +428,7 @@ inspects d image = go (inspectNumber (view d image)) (lowestBad (d .plan) image 
     go zero none e h = (e, h)
 
 pub every-call : EveryCall
-unfolding calls.format calls.begin calls.step calls.wake calls.cut
+unfolding calls.format calls.begin calls.ride calls.step calls.wake calls.cut
 every-call d image =
     let stepped : List ℕ = imageAfter completed d image in
     record {
@@ -410,6 +438,8 @@ every-call d image =
           (outcome 0 (asFormatted d) (formatted (d .plan) image)) refl (formats d image);
       begin = λ u payload. does (Begins d image u payload) (beginNumber (view d image) u (length payload)) d image
           (outcome 0 (asBegun u (padded payload) d) image) refl (begins d image u payload);
+      ride = λ turns. does (Rides d image turns) (rideNumber (view d image) (heldIn d image 0) turns) d image
+          (outcome 0 (asBegun 0 (padded (plus (heldIn d image 0) turns)) d) image) refl (rides d image turns);
       step = does (Steps d image) (stepNumber (view d image)) d image
           (outcome 0 (asStepped (phaseAfter (d .plan) stepped (d .phase)) d) stepped) refl (steps d image);
       wake = does (Wakes d image) (wakeNumber (view d image)) d image
@@ -417,6 +447,7 @@ every-call d image =
       cut = λ m. does (Cuts d image m) (cutNumber (view d image)) d image
           (outcome 0 (asCut d) (imageAfter (tornBy m) d image)) refl (cuts d image m);
       read = reads d image;
+      total = totals d image;
       inspect = inspects d image;
     }
 

@@ -1,7 +1,7 @@
 -- Each call keeps the invariant and answers what the ledger tells.
 -- A step and a cut end the same store, completed or torn, so each of the seven kinds of store is gone through once, for both.
 use Prim.Native.Nat.{ℕ, zero, suc, _+_, _-_, _<_}
-use mathlib.Core.Path.{_≡_, refl, ap, sym, _∙_, subst₂}
+use mathlib.Core.Path.{_≡_, refl, ap, sym, _∙_, subst, subst₂}
 use mathlib.Core.List.{List}
 use mathlib.Core.Option.{some}
 use mathlib.Core.Bool.{Bool, true, false, cond, true≢false}
@@ -18,17 +18,19 @@ use Rattle.model.specs.Layout.{copyA, copyB, marker, byte, width, total,
 use Rattle.model.specs.Refusals.{Job, isCold, isReady, writeTotal, stepNumber}
 use Rattle.model.specs.Refusals as refusals
 use Rattle.model.specs.Stores.{Store, store, source, target, stored}
-use Rattle.model.specs.Calls.{Device, Outcome, outcome, padded, asBegun, asStepped, asWoken, asCut, view, jobOf, next, imageAfter, phaseAfter, cleanupFrom}
+use Rattle.model.specs.Turns.{plus}
+use Rattle.model.specs.Calls.{Device, Outcome, outcome, padded, heldIn, asBegun, asStepped, asWoken, asCut, view, jobOf, next, imageAfter, phaseAfter, cleanupFrom}
 use Rattle.model.specs.Calls as calls
-use Rattle.model.specs.Ledger.{Ledger, Call, begin, step, cut, wake, markerOf, judged, told, saving, accepted}
+use Rattle.model.specs.Ledger.{Ledger, Call, begin, ride, step, cut, wake, markerOf, judged, told, saving, accepted}
 use Rattle.model.specs.Ledger as ledger
 use Rattle.model.specs.PowerCut.{call}
 use Rattle.model.proofs.Compare.{below, above, order, Same, equal, differ, same}
-use Rattle.model.proofs.RefusalLaws.{PlanOk, Alike, step-alike, cut-alike, wake-alike, begin-alike, step-cold, step-ready, wake-says, begin-says, Began}
-use Rattle.model.proofs.LayoutLaws.{Near, stored-near, stored-marker}
+use Rattle.model.proofs.RefusalLaws.{PlanOk, count-bounds, Alike, step-alike, cut-alike, wake-alike, begin-alike, step-cold, step-ready, wake-says, begin-says, Began}
+use Rattle.model.proofs.LayoutLaws.{Near, stored-near, stored-marker, copy-is}
 use Rattle.model.proofs.MarkerLaws.{torn-A-to-B, direction-A, direction-other}
 use Rattle.model.proofs.StoreLaws.{next-A, next-to-A, next-B, next-to-B, next-OK, next-copy, next-settle, next-task, task-goes-on, task-ends, cleanup-goes-on, cleanup-ends, none-found, lowest-found}
 use Rattle.model.proofs.LedgerLaws.{at, noted, then, decides, own-marker, saving-same, notes-A, notes-byte, notes-B, notes-OK, notes-copy, notes-settle}
+use Rattle.model.proofs.TurnLaws.{ride-alike, ride-begins}
 use Rattle.model.proofs.Tasks.{write, Task, alone, jobAt, phaseAt, taskWrite, follows, phased-task}
 use Rattle.model.proofs.Invariant.{Has, Whole, Both, Clean, Frame, Safe, twice, once, Loaded, Starts, idle, still, loaded-follows, follows-starts, Stage, resting, off, opened, toA, toB, mending, phased, job-phased, Inv, source-off-target, both-of, whole-near, frame-near, has-more, all-clean, frame-to, frame-saving}
 
@@ -489,6 +491,23 @@ module _ (p : Plan) (ok : PlanOk p) (before : List ℕ) (l : Ledger) (o : Outcom
             bytes = λ i h. List·getD-append payload (replicate (256 - length payload) 0) 0 i (omega (arith, began .size));
           }
 
+  -- ---- ride: a begin of unit 0
+  -- in Ready copy A of every unit is what the ledger saved
+  held-is : (v : ℕ) → v < p .count → l .job ≡ refusals.ready → heldIn d image v ≡ l .saved v
+  held-is v hv r =
+      rw (inv .plan)
+      (copy-is p ok image v copyA (l .saved v) hv (frame .long) (frame .lengths v hv)
+      (all-clean frame (record { mark = inv .mark ∙ at-rest r .0; both = at-rest r .1 }) v hv .both copyA))
+
+  ride-kept : (turns : ℕ) → told p l (ride turns) ≡ 0
+      → Inv p before (accepted p l (ride turns)) (outcome 0 (asBegun 0 (padded (plus (heldIn d image 0) turns)) d) image)
+  unfolding told accepted
+  ride-kept turns h =
+      let began = begin-says (judged p l) 0 _ (ride-begins (judged p l) (l .saved 0) turns h) in
+      subst (λ (bs : List ℕ). Inv p before (accepted p l (ride turns)) (outcome 0 (asBegun 0 (padded (plus bs turns)) d) image))
+      (sym (held-is 0 (count-bounds p ok .0) (began .job)))
+      (begin-kept 0 (plus (l .saved 0) turns) began)
+
   -- ---- the answers: device and ledger are judged alike
   alike : Alike (view d image) (judged p l)
   alike =
@@ -517,9 +536,11 @@ module _ (p : Plan) (ok : PlanOk p) (before : List ℕ) (l : Ledger) (o : Outcom
           }
 
   pub keeps : (c : Call) → Agrees (told p l c) (accepted p l c) (call c o)
-  unfolding call calls.begin calls.step calls.cut calls.wake told
+  unfolding call calls.begin calls.ride calls.step calls.cut calls.wake told
   keeps (begin v payload) =
       settle _ _ _ _ (begin-alike alike v (length payload)) refl (λ h. begin-kept v payload (begin-says (judged p l) v (length payload) h))
+  keeps (ride turns) =
+      settle _ _ _ _ (ride-alike alike ok turns (held-is 0 (count-bounds p ok .0))) refl (ride-kept turns)
   keeps step = settle _ _ _ _ (step-alike alike) refl step-kept
   keeps (cut m) = settle _ _ _ _ (cut-alike alike) refl (λ h. cut-kept m)
   keeps wake = settle _ _ _ _ (wake-alike alike) refl (λ h. wake-kept (wake-says (judged p l) h))

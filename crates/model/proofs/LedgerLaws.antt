@@ -10,7 +10,7 @@ use Rattle.model.specs.declared.Plan.{Plan}
 use Rattle.model.specs.Marker.{OK, A, B, End, completed, tornBy, markerLeft}
 use Rattle.model.specs.Layout.{width}
 use Rattle.model.specs.Refusals.{Job, cold, ready, writing, recovering, anyForeign}
-use Rattle.model.specs.Ledger.{Ledger, Call, begin, step, cut, wake, opening, markerOf, told, writeMarker, cleanupMarker, passes, saving, stepped, wasCut, accepted, unlessRefused, fed, after}
+use Rattle.model.specs.Ledger.{Ledger, Call, begin, ride, step, cut, wake, opening, markerOf, told, writeMarker, cleanupMarker, passes, saving, stepped, wasCut, accepted, unlessRefused, fed, after}
 use Rattle.model.proofs.MarkerLaws.{not-foreign, torn-small}
 use Rattle.model.proofs.Tasks.{Write, Task, alone, jobAt, taskWrite, follows}
 
@@ -209,6 +209,7 @@ module _ (p : Plan) (l : Ledger) (h : l .marker ≤ 7) where
   accepted-small : (c : Call) → accepted p l c .marker ≤ 7
   unfolding accepted
   accepted-small (begin u payload) = h
+  accepted-small (ride turns) = h
   accepted-small step = step-small (l .job)
   accepted-small (cut m) = cut-small m (l .job)
   accepted-small wake = h

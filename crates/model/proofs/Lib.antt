@@ -6,6 +6,8 @@ pub mod Tasks
 pub mod StoreLaws
 pub mod InspectLaws
 pub mod WorkedCases
+pub mod CasesOfRides
+pub mod TurnLaws
 pub mod Demands
 pub mod Refuses
 pub mod LedgerLaws
@@ -13,5 +15,6 @@ pub mod Invariant
 pub mod Keeps
 pub mod Theorem
 pub mod Wear
+pub mod Totals
 pub mod Restart
 pub mod InARow

@@ -5,10 +5,11 @@ use mathlib.Core.List.{List, [], _∷_, _++_}
 use mathlib.Core.Bool.{Bool, true, false, cond, not, _||_, _&&_, true≢false, false≢true}
 use native.Mathlib.Omega.{arith}
 use lib.Dec.{eqb, ltb, leb}
-use borrow.Author.Tests.{ltb-true, ltb-false, leb-false, eqb-true, eqb-false, lt-leb, le-leb, not-false}
+use borrow.Author.Tests.{ltb-true, ltb-false, leb-false, eqb-true, eqb-false, eq-eqb, lt-leb, le-leb, not-false}
 use Rattle.model.specs.declared.Plan.{Plan}
 use Rattle.model.specs.Layout.{width}
-use Rattle.model.specs.Refusals.{Job, cold, ready, writing, recovering, isCold, isReady, writeTotal, cleanupTotal, View, badCount, badWidths, badJob, Refusal, _when_, first, planRow, deviceRow, anyForeign, startNumber, formatNumber, wakeNumber, stepNumber, cutNumber, beginNumber}
+use Rattle.model.specs.Marker.{OK}
+use Rattle.model.specs.Refusals.{Job, cold, ready, writing, recovering, isCold, isReady, writeTotal, cleanupTotal, View, badCount, badWidths, badJob, Refusal, _when_, first, planRow, deviceRow, anyForeign, startNumber, formatNumber, wakeNumber, stepNumber, cutNumber, beginNumber, totalNumber}
 use Rattle.model.proofs.Compare.{below, above, order}
 
 -- ---- the first refusal that holds
@@ -159,7 +160,7 @@ cold-only ready e = absurd (true≢false e)
 cold-only (writing u n) e = absurd (true≢false e)
 cold-only (recovering u n) e = absurd (true≢false e)
 
-ready-only : (j : Job) → not (isReady j) ≡ false → j ≡ ready
+pub ready-only : (j : Job) → not (isReady j) ≡ false → j ≡ ready
 ready-only cold e = absurd (true≢false e)
 ready-only ready e = refl
 ready-only (writing u n) e = absurd (true≢false e)
@@ -238,6 +239,16 @@ module _ (v : View) (ok : PlanOk (v .plan)) (long : v .short ≡ false) where
   unfolding stepNumber badJob
   step-ready e = device-past _ (rw e) ∙ first-stop 5 _ [] (rw e)
 
+  pub total-ready : v .job ≡ ready → (u : ℕ) → u < v .plan .count → v .marker u ≡ OK → width (v .plan) u ≡ 8 → totalNumber v u ≡ 0
+  unfolding totalNumber badJob
+  total-ready e u h m w =
+      device-past _ (rw e)
+      ∙ first-skip 5 _ _ (rw e)
+      ∙ first-skip 6 _ _ (lt-leb (v .plan .count) u h)
+      ∙ first-skip 8 _ _ (ap not (eq-eqb (v .marker u) OK m))
+      ∙ first-skip 16 _ [] (ap not (eq-eqb (width (v .plan) u) 8 w))
+      ∙ first-none
+
   pub step-recovering : (u n : ℕ) → v .job ≡ recovering u n → u < v .plan .count → n < cleanupTotal (width (v .plan) u)
       → stepNumber v ≡ 0
   unfolding stepNumber
@@ -248,6 +259,22 @@ foreign-alike : (m m′ : ℕ → ℕ) (k : ℕ) → ((u : ℕ) → u < k → m 
 unfolding anyForeign
 foreign-alike m m′ zero h = refl
 foreign-alike m m′ (suc k) h = rw (h k (omega arith), foreign-alike m m′ k (λ u l. h u (omega arith)))
+
+-- two rows are equal if they are from where none held yet
+pub first-from : (pre xs ys : List Refusal) → (first pre ≡ 0 → first xs ≡ first ys) → first (pre ++ xs) ≡ first (pre ++ ys)
+unfolding first
+first-from [] xs ys h = h refl
+first-from (r ∷ pre) xs ys h = go (r .holds) h (first-from pre xs ys)
+  where
+    go : (t : Bool) → (cond t (r .number) (first pre) ≡ 0 → first xs ≡ first ys)
+        → ((first pre ≡ 0 → first xs ≡ first ys) → first (pre ++ xs) ≡ first (pre ++ ys))
+        → cond t (r .number) (first (pre ++ xs)) ≡ cond t (r .number) (first (pre ++ ys))
+    go true f g = refl
+    go false f g = g f
+
+-- past a device row that refuses nothing
+pub device-passed : (v : View) (xs ys : List Refusal) → first (deviceRow v ++ xs) ≡ 0 → first (deviceRow v ++ ys) ≡ first ys
+device-passed v xs ys e = first-passed (deviceRow v) ys refl (first-front (deviceRow v) xs e)
 
 -- ---- two views that no call tells apart: begin and wake look at markers of units that the plan has
 pub record Alike (v v′ : View) : Type 0 where

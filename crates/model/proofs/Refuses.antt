@@ -12,13 +12,15 @@ use Rattle.model.specs.declared.Phase.{Phase}
 use Rattle.model.specs.declared.Phase.the-variants.{Cold, Ready, Writing, Recovering}
 use Rattle.model.specs.Marker.{OK, FOREIGN, isForeign}
 use Rattle.model.specs.Layout.{marker, width, total, get}
-use Rattle.model.specs.Refusals.{isCold, isReady, writeTotal, cleanupTotal, badCount, badWidths, badJob, Refusal, _when_, first, planRow, deviceRow, anyForeign, startNumber, formatNumber, beginNumber, stepNumber, wakeNumber, cutNumber, readNumber, inspectNumber}
-use Rattle.model.specs.Calls.{Device, Outcome, view, jobOf, unlessRefused, startAnswer}
+use Rattle.model.specs.Refusals.{isCold, isReady, writeTotal, cleanupTotal, badCount, badWidths, badJob, Refusal, _when_, first, planRow, deviceRow, anyForeign, startNumber, formatNumber, beginNumber, stepNumber, wakeNumber, cutNumber, readNumber, inspectNumber, rideNumber, totalNumber}
+use Rattle.model.specs.Turns.{amount}
+use Rattle.model.specs.Calls.{Device, Outcome, view, heldIn, jobOf, unlessRefused, startAnswer}
 use Rattle.model.specs.Calls as calls
-use Rattle.model.specs.Refuses.{Lowest, BadPlan, noUnit, manyUnits, noWidth, wide, BadDevice, plan, short, writingNoUnit, writingMade, cleaningNoUnit, cleaningMade, BadFormat, BadWake, foreign, BadStep, BadRead, BadBegin, asRead, size, RefusedExactly}
+use Rattle.model.specs.Refuses.{First, Lowest, BadPlan, noUnit, manyUnits, noWidth, wide, BadDevice, plan, short, writingNoUnit, writingMade, cleaningNoUnit, cleaningMade, BadFormat, BadWake, foreign, BadStep, BadRead, BadBegin, size, BadRide, rideOrder, BadTotal, RefusedExactly}
 use Rattle.model.specs.Refuses as bad
 use Rattle.model.proofs.Compare.{below, above, order, equal, differ, same}
 use Rattle.model.proofs.MarkerLaws.{not-foreign}
+use Rattle.model.proofs.TurnLaws.{held-amount}
 
 -- ---- A refusal of the row has the number k and holds: it is the first, or one of the rest.
 data Held (k : ℕ) (r : Refusal) (Rest : Type 0) : Type 0 where
@@ -43,16 +45,6 @@ says-split P k [] ys f g s = g s
 says-split P k (r ∷ xs) ys f g (here e h) = f (here e h)
 says-split P k (r ∷ xs) ys f g (there s) = says-split P k xs ys (λ q. f (there q)) g s
 
--- ---- The answer of a row whose numbers rise from b on.
-abbrev Rising : ℕ → List Refusal → Type 0
-Rising b [] = Unit
-Rising b (r ∷ rest) = (b ≤ r .number) × Rising (r .number) rest
-
-bounded : (b k : ℕ) (row : List Refusal) → Rising b row → Says k row → b ≤ k
-bounded b k [] rise s = absurd s
-bounded b k (r ∷ rest) rise (here e h) = omega (arith, rise .0, e)
-bounded b k (r ∷ rest) rise (there s) = omega (arith, rise .0, bounded (r .number) k rest (rise .1) s)
-
 answers : (row : List Refusal) → ¬ (first row ≡ 0) → Says (first row) row
 unfolding first
 answers [] h = absurd (h refl)
@@ -63,25 +55,44 @@ answers (r ∷ rest) h = go (r .holds) refl h (answers rest)
     go true e h more = here refl e
     go false e h more = there (more h)
 
-least : (b k : ℕ) (row : List Refusal) → 1 ≤ b → Rising b row → Says k row → (1 ≤ first row) × (first row ≤ k)
-unfolding first
-least b k [] l rise s = absurd s
-least b k (r ∷ rest) l rise s = go (r .holds) refl (least (r .number) k rest (omega (arith, rise .0)) (rise .1)) s
-  where
-    go : (t : Bool) → r .holds ≡ t → (Says k rest → (1 ≤ first rest) × (first rest ≤ k)) → Held k r (Says k rest)
-        → (1 ≤ cond t (r .number) (first rest)) × (cond t (r .number) (first rest) ≤ k)
-    go true e more (here q h) = (omega (arith, rise .0), omega (arith, q))
-    go true e more (there s) = (omega (arith, rise .0), bounded (r .number) k rest (rise .1) s)
-    go false e more (here q h) = absurd (true≢false (sym h ∙ e))
-    go false e more (there s) = more s
+-- ---- The answer of a row whose numbers stand in an order, from b on.
+module _ (order : ℕ → ℕ) where
+  abbrev Ordered : ℕ → List Refusal → Type 0
+  Ordered b [] = Unit
+  Ordered b (r ∷ rest) = (b ≤ order (r .number)) × Ordered (order (r .number)) rest
+
+  bounded : (b k : ℕ) (row : List Refusal) → Ordered b row → Says k row → b ≤ order k
+  bounded b k [] rise s = absurd s
+  bounded b k (r ∷ rest) rise (here e h) = omega (arith, rise .0, ap order e)
+  bounded b k (r ∷ rest) rise (there s) = omega (arith, rise .0, bounded (order (r .number)) k rest (rise .1) s)
+
+  least : (b k : ℕ) (row : List Refusal) → 1 ≤ b → Ordered b row → Says k row → (1 ≤ order (first row)) × (order (first row) ≤ order k)
+  unfolding first
+  least b k [] l rise s = absurd s
+  least b k (r ∷ rest) l rise s = go (r .holds) refl (least (order (r .number)) k rest (omega (arith, rise .0)) (rise .1)) s
+    where
+      go : (t : Bool) → r .holds ≡ t → (Says k rest → (1 ≤ order (first rest)) × (order (first rest) ≤ order k)) → Held k r (Says k rest)
+          → (1 ≤ order (cond t (r .number) (first rest))) × (order (cond t (r .number) (first rest)) ≤ order k)
+      go true e more (here q h) = (omega (arith, rise .0), omega (arith, ap order q))
+      go true e more (there s) = (omega (arith, rise .0), bounded (order (r .number)) k rest (rise .1) s)
+      go false e more (here q h) = absurd (true≢false (sym h ∙ e))
+      go false e more (there s) = more s
+
+  earliest : (Applies : ℕ → Type 0) (row : List Refusal) → Ordered 1 row
+      → ((k : ℕ) → Says k row → Applies k) → ((k : ℕ) → Applies k → Says k row) → First order Applies (first row)
+  earliest Applies row rise to from =
+      record {
+        given = λ h. to (first row) (answers row h);
+        first = λ k a. least 1 k row (omega arith) rise (from k a);
+      }
+
+-- most rows rise
+abbrev Rising : ℕ → List Refusal → Type 0
+Rising = Ordered (λ k. k)
 
 lowest : (Applies : ℕ → Type 0) (row : List Refusal) → Rising 1 row
     → ((k : ℕ) → Says k row → Applies k) → ((k : ℕ) → Applies k → Says k row) → Lowest Applies (first row)
-lowest Applies row rise to from =
-    record {
-      given = λ h. to (first row) (answers row h);
-      lowest = λ k a. least 1 k row (omega arith) rise (from k a);
-    }
+lowest = earliest (λ k. k)
 
 -- what applies for one number applies for an equal one
 number-is : (Applies : ℕ → Type 0) (n k : ℕ) → n ≡ k → Applies n → Applies k
@@ -364,24 +375,85 @@ module _ (d : Device) (image : List ℕ) where
 
       begin-lowest : Lowest Bad (beginNumber (view d image) u (length payload))
       unfolding beginNumber get
-      begin-lowest = behind Bad row (omega arith, (omega arith, (omega arith, (omega arith, tt)))) (λ k b. asRead (bad.BadRead.device b)) to from
+      begin-lowest = behind Bad row (omega arith, (omega arith, (omega arith, (omega arith, tt)))) (λ k b. bad.BadBegin.asRead (bad.BadRead.device b)) to from
         where
           row : List Refusal
           row = 5 when off ∷ 6 when leb (p .count) u ∷ 7 when not (eqb (length payload) (width p u)) ∷ 8 when badMark ∷ []
 
           to : (k : ℕ) → Says k row → Bad k
-          to k (here e h) = number-is Bad 5 k e (asRead (bad.BadRead.phase (not-ready-to (d .phase) h)))
-          to k (there (here e h)) = number-is Bad 6 k e (asRead (bad.BadRead.unit (leb-true (p .count) u h)))
+          to k (here e h) = number-is Bad 5 k e (bad.BadBegin.asRead (bad.BadRead.phase (not-ready-to (d .phase) h)))
+          to k (there (here e h)) = number-is Bad 6 k e (bad.BadBegin.asRead (bad.BadRead.unit (leb-true (p .count) u h)))
           to k (there (there (here e h))) = number-is Bad 7 k e (size (eqb-false (length payload) (width p u) (not-true _ h)))
-          to k (there (there (there (here e h)))) = number-is Bad 8 k e (asRead (bad.BadRead.mark (mark-to h)))
+          to k (there (there (there (here e h)))) = number-is Bad 8 k e (bad.BadBegin.asRead (bad.BadRead.mark (mark-to h)))
           to k (there (there (there (there q)))) = absurd q
 
           from : (k : ℕ) → Bad k → Says k (deviceRow (view d image) ++ row)
-          from k (asRead (bad.BadRead.device b)) = front k row b
-          from k (asRead (bad.BadRead.phase h)) = back 5 row (here refl (not-ready-from (d .phase) h))
-          from k (asRead (bad.BadRead.unit h)) = back 6 row (there (here refl (le-leb (p .count) u h)))
-          from k (asRead (bad.BadRead.mark h)) = back 8 row (there (there (there (here refl (mark-from h)))))
+          from k (bad.BadBegin.asRead (bad.BadRead.device b)) = front k row b
+          from k (bad.BadBegin.asRead (bad.BadRead.phase h)) = back 5 row (here refl (not-ready-from (d .phase) h))
+          from k (bad.BadBegin.asRead (bad.BadRead.unit h)) = back 6 row (there (here refl (le-leb (p .count) u h)))
+          from k (bad.BadBegin.asRead (bad.BadRead.mark h)) = back 8 row (there (there (there (here refl (mark-from h)))))
           from k (size h) = back 7 row (there (there (here refl (rw (ne-eqb (length payload) (width p u) h)))))
+
+    total-lowest : Lowest (BadTotal d image u) (totalNumber (view d image) u)
+    unfolding totalNumber get
+    total-lowest =
+        behind (BadTotal d image u) row (omega arith, (omega arith, (omega arith, (omega arith, tt))))
+        (λ k b. bad.BadTotal.asRead (bad.BadRead.device b)) to from
+      where
+        row : List Refusal
+        row = 5 when off ∷ 6 when leb (p .count) u ∷ 8 when badMark ∷ 16 when not (eqb (width p u) 8) ∷ []
+
+        to : (k : ℕ) → Says k row → BadTotal d image u k
+        to k (here e h) = number-is (BadTotal d image u) 5 k e (bad.BadTotal.asRead (bad.BadRead.phase (not-ready-to (d .phase) h)))
+        to k (there (here e h)) = number-is (BadTotal d image u) 6 k e (bad.BadTotal.asRead (bad.BadRead.unit (leb-true (p .count) u h)))
+        to k (there (there (here e h))) = number-is (BadTotal d image u) 8 k e (bad.BadTotal.asRead (bad.BadRead.mark (mark-to h)))
+        to k (there (there (there (here e h)))) =
+            number-is (BadTotal d image u) 16 k e (bad.BadTotal.otherWidth (eqb-false (width p u) 8 (not-true _ h)))
+        to k (there (there (there (there q)))) = absurd q
+
+        from : (k : ℕ) → BadTotal d image u k → Says k (deviceRow (view d image) ++ row)
+        from k (bad.BadTotal.asRead (bad.BadRead.device b)) = front k row b
+        from k (bad.BadTotal.asRead (bad.BadRead.phase h)) = back 5 row (here refl (not-ready-from (d .phase) h))
+        from k (bad.BadTotal.asRead (bad.BadRead.unit h)) = back 6 row (there (here refl (le-leb (p .count) u h)))
+        from k (bad.BadTotal.asRead (bad.BadRead.mark h)) = back 8 row (there (there (here refl (mark-from h))))
+        from k (bad.BadTotal.otherWidth h) = back 16 row (there (there (there (here refl (rw (ne-eqb (width p u) 8 h))))))
+
+  -- ---- ride
+  module _ (turns : ℕ) where
+    abbrev Ride : ℕ → Type 0
+    Ride = BadRide d image turns
+
+    abbrev large : Bool
+    large = ltb 18446744073709551615 (amount (heldIn d image 0) + turns)
+
+    ride-first : First rideOrder Ride (rideNumber (view d image) (heldIn d image 0) turns)
+    unfolding rideNumber get
+    ride-first =
+        earliest rideOrder Ride (deviceRow (view d image) ++ row)
+        (omega arith, (omega arith, (omega arith, (omega arith, (omega arith, (omega arith, (omega arith, (omega arith, tt))))))))
+        (λ k s. says-split (Ride k) k (deviceRow (view d image)) row (λ q. bad.BadRide.device (device-to k q)) (to k) s) from
+      where
+        row : List Refusal
+        row = 5 when off 0 ∷ 16 when not (eqb (width p 0) 8) ∷ 8 when badMark 0 ∷ 15 when large ∷ []
+
+        to : (k : ℕ) → Says k row → Ride k
+        to k (here e h) = number-is Ride 5 k e (bad.BadRide.phase (not-ready-to (d .phase) h))
+        to k (there (here e h)) = number-is Ride 16 k e (bad.BadRide.otherWidth (eqb-false (width p 0) 8 (not-true _ h)))
+        to k (there (there (here e h))) = number-is Ride 8 k e (bad.BadRide.mark (mark-to 0 h))
+        to k (there (there (there (here e h)))) =
+            number-is Ride 15 k e
+            (bad.BadRide.large (omega (arith, ltb-true 18446744073709551615 (amount (heldIn d image 0) + turns) h, held-amount p image 0)))
+        to k (there (there (there (there q)))) = absurd q
+
+        from : (k : ℕ) → Ride k → Says k (deviceRow (view d image) ++ row)
+        from k (bad.BadRide.device b) = front k row b
+        from k (bad.BadRide.phase h) = back 5 row (here refl (not-ready-from (d .phase) h))
+        from k (bad.BadRide.otherWidth h) = back 16 row (there (here refl (rw (ne-eqb (width p 0) 8 h))))
+        from k (bad.BadRide.mark h) = back 8 row (there (there (here refl (mark-from 0 h))))
+        from k (bad.BadRide.large h) =
+            back 15 row
+            (there (there (there (here refl
+            (lt-ltb 18446744073709551615 (amount (heldIn d image 0) + turns) (omega (arith, h, held-amount p image 0)))))))
 
 -- ---- a call's number is that of its row
 told : (n : ℕ) (d : Device) (image : List ℕ) (o : Outcome) → o .number ≡ 0 → n ≡ unlessRefused n d image o .number
@@ -393,16 +465,18 @@ started zero p = refl
 started (suc n) p = refl
 
 pub refused-exactly : RefusedExactly
-unfolding startNumber cutNumber inspectNumber calls.start calls.format calls.begin calls.step calls.wake calls.cut
+unfolding startNumber cutNumber inspectNumber calls.start calls.format calls.begin calls.ride calls.step calls.wake calls.cut
 refused-exactly d image =
     record {
       start = subst (Lowest (BadPlan (d .plan))) (started _ _)
           (lowest (BadPlan (d .plan)) (planRow (d .plan)) (omega arith, (omega arith, tt)) (plan-to (d .plan)) (plan-from (d .plan)));
       format = subst (Lowest (BadFormat d image)) (told _ d image _ refl) (format-lowest d image);
       begin = λ u payload. subst (Lowest (BadBegin d image u payload)) (told _ d image _ refl) (begin-lowest d image u payload);
+      ride = λ turns. subst (First rideOrder (BadRide d image turns)) (told _ d image _ refl) (ride-first d image turns);
       step = subst (Lowest (BadStep d image)) (told _ d image _ refl) (step-lowest d image);
       wake = subst (Lowest (BadWake d image)) (told _ d image _ refl) (wake-lowest d image);
       cut = λ m. subst (Lowest (BadDevice d image)) (told _ d image _ refl) (device-lowest d image);
       read = read-lowest d image;
+      total = total-lowest d image;
       inspect = device-lowest d image;
     }

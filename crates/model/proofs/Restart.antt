@@ -6,10 +6,11 @@ use mathlib.Core.List.{List}
 use lib.ListN.{length}
 use Rattle.model.specs.declared.Plan.{Plan}
 use Rattle.model.specs.Marker.{completed, tornBy}
-use Rattle.model.specs.Refusals.{startNumber, beginNumber, stepNumber, wakeNumber, cutNumber}
-use Rattle.model.specs.Calls.{Device, Outcome, outcome, asStarted, asBegun, asStepped, asWoken, asCut, padded, view, imageAfter, cleanupFrom, phaseAfter}
+use Rattle.model.specs.Refusals.{startNumber, beginNumber, rideNumber, stepNumber, wakeNumber, cutNumber}
+use Rattle.model.specs.Turns.{plus}
+use Rattle.model.specs.Calls.{Device, Outcome, outcome, asStarted, asBegun, asStepped, asWoken, asCut, padded, heldIn, view, imageAfter, cleanupFrom, phaseAfter}
 use Rattle.model.specs.Calls as calls
-use Rattle.model.specs.Ledger.{Ledger, Call, begin, step, cut, wake, opening, judged, told, fed}
+use Rattle.model.specs.Ledger.{Ledger, Call, begin, ride, step, cut, wake, opening, judged, told, fed}
 use Rattle.model.specs.PowerCut.{call, run, closedBy}
 use Rattle.model.specs.Restart.{restarted, Leads, ended, called, lost, uncounted, PowerCutRestarting, RestartingAlike}
 use Rattle.model.proofs.RefusalLaws.{PlanOk, start-fine, cut-any}
@@ -26,9 +27,12 @@ settle zero o f e = e
 settle (suc n) o f e = refl
 
 count-alone : (c : Call) (o : Outcome) → uncounted (call c (uncounted o)) ≡ uncounted (call c o)
-unfolding call calls.begin calls.step calls.cut calls.wake imageAfter
+unfolding call calls.begin calls.ride calls.step calls.cut calls.wake imageAfter
 count-alone (begin u payload) o =
     settle (beginNumber (view (o .device) (o .image)) u (length payload)) o (λ d. outcome 0 (asBegun u (padded payload) d) (o .image)) refl
+count-alone (ride turns) o =
+    settle (rideNumber (view (o .device) (o .image)) (heldIn (o .device) (o .image) 0) turns) o
+    (λ d. outcome 0 (asBegun 0 (padded (plus (heldIn d (o .image) 0) turns)) d) (o .image)) refl
 count-alone step o =
     settle (stepNumber (view (o .device) (o .image))) o
     (λ d. let i = imageAfter completed d (o .image) in outcome 0 (asStepped (phaseAfter (d .plan) i (d .phase)) d) i)

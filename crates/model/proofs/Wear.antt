@@ -10,12 +10,13 @@ use borrow.Author.Tests.{eq-eqb, ne-eqb, leb-false, lt-ltb, le-ltb}
 use Rattle.model.specs.declared.Plan.{Plan}
 use Rattle.model.specs.Plans.{width}
 use Rattle.model.specs.Marker.{OK, direction, completed, tornBy, tornBits, torn}
-use Rattle.model.specs.Refusals.{Job, cold, ready, writing, recovering, badCount, badWidths, badJob, first, anyForeign, startNumber, formatNumber, beginNumber, stepNumber, wakeNumber, cutNumber}
+use Rattle.model.specs.Refusals.{Job, cold, ready, writing, recovering, badCount, badWidths, badJob, first, anyForeign, startNumber, formatNumber, beginNumber, rideNumber, stepNumber, wakeNumber, cutNumber}
+use Rattle.model.specs.Turns.{plus}
 use Rattle.model.specs.Layout.{base, get, put, fresh, formatted}
 use Rattle.model.specs.Stores.{copying, writeStores, cleanupStores, stored}
-use Rattle.model.specs.Calls.{Device, Outcome, outcome, asFormatted, asBegun, asWoken, asStepped, asCut, phaseAfter, padded, cleanupFrom, imageAfter, counted, mostStores, view}
+use Rattle.model.specs.Calls.{Device, Outcome, outcome, asFormatted, asBegun, asWoken, asStepped, asCut, phaseAfter, padded, heldIn, cleanupFrom, imageAfter, counted, mostStores, view}
 use Rattle.model.specs.Calls as calls
-use Rattle.model.specs.Ledger.{Ledger, Call, begin, step, cut, wake, opening, markerOf, judged, told, writeMarker, cleanupMarker, saving, stepped, wasCut, accepted, fed}
+use Rattle.model.specs.Ledger.{Ledger, Call, begin, ride, step, cut, wake, opening, markerOf, judged, told, writeMarker, cleanupMarker, saving, stepped, wasCut, accepted, fed}
 use Rattle.model.specs.Ledger as ledger
 use Rattle.model.specs.PowerCut.{call, run}
 use Rattle.model.specs.Wear.{ifAccepted, overAccepted, completes, tornAt, tears, widest, allows, Worn, WearCeiling}
@@ -98,6 +99,7 @@ module _ (p : Plan) (ok : PlanOk p) where
     fair : l .unit < p .count → (c : Call) → told p l c ≡ 0 → Fair c
     unfolding told accepted
     fair hu (begin u payload) e = omega arith
+    fair hu (ride turns) e = omega arith
     fair hu step e = step-fair e
     fair hu (cut m) e = cut-fair m e
     fair hu wake e = wake-fair hu (wake-says (judged p l) e)
@@ -137,10 +139,14 @@ adds (suc n) d image next k more e z h = omega (arith, e)
 
 call-adds : (c : Call) (l : Ledger) (o : Outcome) (k : ℕ) → o .device .stores ≡ min k mostStores
     → call c o .device .stores ≡ min (k + ifAccepted (call c o .number) (completes l c)) mostStores
-unfolding call calls.begin calls.step calls.cut calls.wake
+unfolding call calls.begin calls.ride calls.step calls.cut calls.wake
 call-adds (begin u payload) l o k e =
     adds (beginNumber (view (o .device) (o .image)) u (length payload)) (o .device) (o .image)
     (outcome 0 (asBegun u (padded payload) (o .device)) (o .image)) k 0 e refl (omega (arith, e))
+call-adds (ride turns) l o k e =
+    let held = heldIn (o .device) (o .image) 0 in
+    adds (rideNumber (view (o .device) (o .image)) held turns) (o .device) (o .image)
+    (outcome 0 (asBegun 0 (padded (plus held turns)) (o .device)) (o .image)) k 0 e refl (omega (arith, e))
 call-adds step l o k e =
     let image = imageAfter completed (o .device) (o .image) in
     adds (stepNumber (view (o .device) (o .image))) (o .device) (o .image)

@@ -13,8 +13,9 @@ use Rattle.model.specs.declared.Phase.{Phase}
 use Rattle.model.specs.declared.Phase.the-variants.{Cold, Ready, Writing, Recovering}
 use Rattle.model.specs.Marker.{OK, direction, End, completed, tornBy}
 use Rattle.model.specs.Layout.{copyA, marker, width, total, get, copyOf, formatted}
-use Rattle.model.specs.Refusals.{Job, cold, ready, writing, recovering, View, writeTotal, cleanupTotal, startNumber, formatNumber, beginNumber, stepNumber, wakeNumber, cutNumber, readNumber, inspectNumber}
+use Rattle.model.specs.Refusals.{Job, cold, ready, writing, recovering, View, writeTotal, cleanupTotal, startNumber, formatNumber, beginNumber, stepNumber, wakeNumber, cutNumber, readNumber, inspectNumber, rideNumber, totalNumber}
 use Rattle.model.specs.Stores.{Store, writeStores, cleanupStores, stored}
+use Rattle.model.specs.Turns.{amount, plus}
 
 -- "The device is a plan, a 256-byte payload and a phase." Ticket 5: "a 32-bit count of completed stores". The library's struct has
 -- the same fields.
@@ -157,6 +158,16 @@ unfoldable pub begin : Device → List ℕ → ℕ → List ℕ → Outcome
 begin d image u payload =
     unlessRefused (beginNumber (view d image) u (length payload)) d image (outcome 0 (asBegun u (padded payload) d) image)
 
+-- Ticket 7: "a unit's total or record is taken from copy A"
+abbrev pub heldIn : Device → List ℕ → ℕ → List ℕ
+heldIn d image u = copyOf (d .plan) image u copyA
+
+-- "takes a ride's turns (64 bits) and begins a write of total plus turns", of unit 0
+unfoldable pub ride : Device → List ℕ → ℕ → Outcome
+ride d image turns =
+    unlessRefused (rideNumber (view d image) (heldIn d image 0) turns) d image
+    (outcome 0 (asBegun 0 (padded (plus (heldIn d image 0) turns)) d) image)
+
 -- "makes the next store and adds 1"
 unfoldable pub step : Device → List ℕ → Outcome
 step d image =
@@ -182,6 +193,18 @@ unfoldable pub read : Device → List ℕ → ℕ → List ℕ
 read d image u = partUnlessRefused (readNumber (view d image) u) (copyOf (d .plan) image u copyA)
 
 -- "A companion call gives the number, 0 or a refusal": readNumber (view d image) u.
+
+-- a unit's total as a number, 0 when refused
+pub record Total : Type 0 where
+  pub number : ℕ
+  pub amount : ℕ
+
+abbrev pub totalUnlessRefused : ℕ → ℕ → Total
+totalUnlessRefused zero n = record { number = 0; amount = n }
+totalUnlessRefused (suc refusal) n = record { number = suc refusal; amount = 0 }
+
+unfoldable pub totalOf : Device → List ℕ → ℕ → Total
+totalOf d image u = totalUnlessRefused (totalNumber (view d image) u) (amount (heldIn d image u))
 
 abbrev pub AllMarkersOk : Plan → List ℕ → Type 0
 AllMarkersOk p image = (u : ℕ) → u < p .count → get p image u marker ≡ OK

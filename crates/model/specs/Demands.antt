@@ -21,8 +21,8 @@ use Rattle.model.specs.declared.Phase.the-variants.{Cold, Ready, Writing
 use Rattle.model.specs.declared.Inspection.{Inspection}
 use Rattle.model.specs.declared.Inspection.the-variants.{Refused, Suspect, AllOk}
 use Rattle.model.specs.Layout.{Copy, copyA, copyB, Cell, marker, byte, width, base, total, place}
-use Rattle.model.specs.Refusals.{readNumber, inspectNumber}
-use Rattle.model.specs.Calls.{Device, Answer, Outcome, outcome, view}
+use Rattle.model.specs.Refusals.{readNumber, inspectNumber, totalNumber}
+use Rattle.model.specs.Calls.{Device, Answer, Outcome, outcome, view, Total}
 use Rattle.model.specs.Calls as calls
 use Rattle.model.specs.Drive.{driveNumber, drive}
 
@@ -83,6 +83,23 @@ pub record Begins (d : Device) (image : List ℕ) (u : ℕ) (payload : List ℕ)
   pub held : (i : ℕ) → i < length payload → getD (o .device .payload) i 0 ≡ getD payload i 0
   pub zeros : (i : ℕ) → length payload ≤ i → getD (o .device .payload) i 0 ≡ 0
   pub image′ : o .image ≡ image
+
+-- Ticket 7: "lowest byte first": n bytes as a number
+unfoldable pub lowestFirst : ℕ → (ℕ → ℕ) → ℕ
+lowestFirst zero bytes = 0
+lowestFirst (suc n) bytes = bytes 0 + 256 * lowestFirst n (λ i. bytes (suc i))
+
+-- what copy A of a unit holds
+abbrev pub held : Plan → List ℕ → ℕ → ℕ
+held p image u = lowestFirst (width p u) (λ i. at p image u (byte copyA i))
+
+-- "begins a write of total plus turns", of unit 0; the total is "taken from copy A"
+pub record Rides (d : Device) (image : List ℕ) (turns : ℕ) (o : Outcome) : Type 0 where
+  pub bytes : List ℕ
+  pub begins : Begins d image 0 bytes o
+  pub size : length bytes ≡ 8
+  pub small : (i : ℕ) → i < 8 → getD bytes i 0 < 256
+  pub sum : lowestFirst 8 (λ i. getD bytes i 0) ≡ held (d .plan) image 0 + turns
 
 -- ---- The store that comes next, by the number of stores made.
 -- "marker 2; A's bytes 0 to w-1 from the payload; marker 4; B's bytes 0 to w-1 from the payload; marker 1"
@@ -199,6 +216,12 @@ pub record Reads (d : Device) (image : List ℕ) (u : ℕ) (part : List ℕ) : T
   pub bytes : readNumber (view d image) u ≡ 0
       → (i : ℕ) → i < width (d .plan) u → getD part i 0 ≡ at (d .plan) image u (byte copyA i)
 
+-- a unit's total as a number, 0 when refused
+pub record Totals (d : Device) (image : List ℕ) (u : ℕ) (t : Total) : Type 0 where
+  pub number : t .number ≡ totalNumber (view d image) u
+  pub refused : ¬ (t .number ≡ 0) → t .amount ≡ 0
+  pub accepted : t .number ≡ 0 → t .amount ≡ held (d .plan) image u
+
 -- Ticket 3: "Inspect now names the lowest unit whose marker isn't 1"; document 01: "none exactly if all are 1. .. It works in
 -- every phase; refused, it gives the number and names no unit."
 abbrev pub Inspects : Device → List ℕ → Inspection → Type 0
@@ -215,10 +238,12 @@ pub record Demands (d : Device) (image : List ℕ) : Type 0 where
   pub start : Starts (d .plan) (calls.start (d .plan))
   pub format : Does (Formats d image) d image (calls.format d image)
   pub begin : (u : ℕ) (payload : List ℕ) → Does (Begins d image u payload) d image (calls.begin d image u payload)
+  pub ride : (turns : ℕ) → Does (Rides d image turns) d image (calls.ride d image turns)
   pub step : Does (Steps d image) d image (calls.step d image)
   pub wake : Does (Wakes d image) d image (calls.wake d image)
   pub cut : (m : ℕ) → Does (Cuts d image m) d image (calls.cut d image m)
   pub read : (u : ℕ) → Reads d image u (calls.read d image u)
+  pub total : (u : ℕ) → Totals d image u (calls.totalOf d image u)
   pub inspect : Inspects d image (calls.inspect d image)
 
 abbrev pub EveryCall : Type 0

@@ -8,11 +8,13 @@ use lib.ListN.{length, replicate}
 use Rattle.model.specs.declared.Plan.{Plan}
 use Rattle.model.specs.Marker.{OK, A, B, End, completed, tornBy, markerLeft}
 use Rattle.model.specs.Plans.{width}
-use Rattle.model.specs.Refusals.{Job, cold, ready, writing, recovering, View, beginNumber, stepNumber, cutNumber, wakeNumber}
+use Rattle.model.specs.Refusals.{Job, cold, ready, writing, recovering, View, beginNumber, rideNumber, stepNumber, cutNumber, wakeNumber}
+use Rattle.model.specs.Turns.{plus}
 
 -- the calls of demand 3's lists, with their arguments
 pub data Call : Type 0 where
   begin : ℕ → List ℕ → Call
+  ride : ℕ → Call
   step : Call
   cut : ℕ → Call
   wake : Call
@@ -48,6 +50,7 @@ judged p l = record { plan = p; short = false; job = l .job; marker = markerOf l
 -- "In the list each call answers that refusal's number, otherwise 0."
 unfoldable pub told : Plan → Ledger → Call → ℕ
 told p l (begin u payload) = beginNumber (judged p l) u (length payload)
+told p l (ride turns) = rideNumber (judged p l) (l .saved 0) turns
 told p l step = stepNumber (judged p l)
 told p l (cut m) = cutNumber (judged p l)
 told p l wake = wakeNumber (judged p l)
@@ -73,6 +76,10 @@ passes w n (tornBy m) left = eqb n (w + 2) && not (eqb left A)
 unfoldable pub saving : ℕ → List ℕ → (ℕ → List ℕ) → ℕ → List ℕ
 saving u payload saved v = cond (eqb v u) payload (saved v)
 
+-- whether the write of unit u passes at its store n, which ends so
+abbrev pub passesAt : Plan → Ledger → ℕ → ℕ → End → Bool
+passesAt p l u n e = passes (width p u) n e (writeMarker (width p u) n e (markerOf l u))
+
 -- store n of the write of unit u comes to an end, and the job is then j
 abbrev pub wrote : Plan → Ledger → ℕ → ℕ → End → Job → Ledger
 wrote p l u n e j =
@@ -81,10 +88,7 @@ wrote p l u n e j =
       payload = l .payload;
       unit = u;
       marker = writeMarker (width p u) n e (markerOf l u);
-      saved =
-          cond (passes (width p u) n e (writeMarker (width p u) n e (markerOf l u)))
-          (saving u (l .payload) (l .saved))
-          (l .saved);
+      saved = cond (passesAt p l u n e) (saving u (l .payload) (l .saved)) (l .saved);
     }
 
 -- the same of a cleanup
@@ -119,10 +123,11 @@ wasCut p l m ready = noted l cold (l .payload)
 wasCut p l m (writing u made) = wrote p l u (suc made) (tornBy m) cold
 wasCut p l m (recovering u made) = cleaned p l u (suc made) (tornBy m) cold
 
--- "Begin: Writing that unit, 0 made, payload noted."
+-- "Begin: Writing that unit, 0 made, payload noted." A ride begins a write of unit 0.
 -- "Wake: Ready if the marker is 1, otherwise Recovering the unit last written, 0 made."
 unfoldable pub accepted : Plan → Ledger → Call → Ledger
 accepted p l (begin u payload) = noted l (writing u 0) payload
+accepted p l (ride turns) = noted l (writing 0 0) (plus (l .saved 0) turns)
 accepted p l step = stepped p l (l .job)
 accepted p l (cut m) = wasCut p l m (l .job)
 accepted p l wake = noted l (cond (eqb (l .marker) OK) ready (recovering (l .unit) 0)) (l .payload)

@@ -2,6 +2,7 @@ pub mod Numbers
 pub mod Marker
 pub mod Plans
 pub mod Layout
+pub mod Turns
 pub mod Refusals
 pub mod Stores
 pub mod Calls
@@ -11,8 +12,10 @@ pub mod Restart
 pub mod Steps
 pub mod Foreign
 pub mod Wear
+pub mod Totals
 pub mod Drive
 pub mod Cases
 pub mod Edges
+pub mod CasesOfRides
 pub mod Demands
 pub mod Refuses

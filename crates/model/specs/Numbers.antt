@@ -1,5 +1,6 @@
 -- The refusals by name; 0 is accepted. src/refusals.rt and the project's README have the same names. Document 01, 'Refusals',
--- has 1 to 10; brake curves (Ticket 1) add 11 to 13, memory from another product (Ticket 4) adds 14.
+-- has 1 to 10; brake curves (Ticket 1) add 11 to 13, memory from another product (Ticket 4) adds 14, wheel turns (Ticket 7)
+-- add 15 and 16.
 use Prim.Native.Nat.{ℕ}
 
 abbrev pub BAD-COUNT : ℕ
@@ -43,3 +44,9 @@ BAD-ENTRY = 13
 
 abbrev pub FOREIGN-MARKER : ℕ
 FOREIGN-MARKER = 14
+
+abbrev pub SUM-TOO-LARGE : ℕ
+SUM-TOO-LARGE = 15
+
+abbrev pub NO-TOTAL : ℕ
+NO-TOTAL = 16

@@ -1,6 +1,6 @@
 -- THE POWER-CUT THEOREM, demand 3 of document 01, as one statement. It is proved in proofs/Theorem.antt.
 --
--- Format a device. Then let anything happen: begins of any unit with any payload, steps, power cuts that leave any byte, wakes,
+-- Format a device. Then let anything happen: begins of any unit with any payload, rides, steps, power cuts that leave any byte, wakes,
 -- in any order, calls that are refused among them; and at last one more cut. Then one wake and an exact number of steps bring
 -- every marker to OK and both copies of every unit to the payload of its last write that passed.
 use Prim.Native.Nat.{ℕ, _+_, _≤_, _<_}
@@ -13,11 +13,12 @@ use Rattle.model.specs.Marker.{OK}
 use Rattle.model.specs.Layout.{Copy, marker, width, total, get, copyOf}
 use Rattle.model.specs.Calls.{Device, Outcome, AllMarkersOk}
 use Rattle.model.specs.Calls as calls
-use Rattle.model.specs.Ledger.{Call, begin, step, cut, wake, opening, tells, after}
+use Rattle.model.specs.Ledger.{Call, begin, ride, step, cut, wake, opening, tells, after}
 
 -- ---- Lists of calls: each call gets the device and the image that the one before left.
 unfoldable pub call : Call → Outcome → Outcome
 call (begin u payload) o = calls.begin (o .device) (o .image) u payload
+call (ride turns) o = calls.ride (o .device) (o .image) turns
 call step o = calls.step (o .device) (o .image)
 call (cut m) o = calls.cut (o .device) (o .image) m
 call wake o = calls.wake (o .device) (o .image)

@@ -4,12 +4,13 @@
 use Prim.Native.Nat.{ℕ, zero, suc, _+_, _*_}
 use mathlib.Core.List.{List, [], _∷_, _++_}
 use mathlib.Core.Bool.{Bool, true, false, cond, not, _||_}
-use lib.Dec.{eqb, leb}
+use lib.Dec.{eqb, ltb, leb}
 use Rattle.model.specs.declared.Plan.{Plan}
-pub use Rattle.model.specs.Numbers.{BAD-COUNT, BAD-WIDTH, SHORT-IMAGE, BAD-JOB, WRONG-PHASE, NO-UNIT, WRONG-SIZE, BAD-MARKER, FOREIGN-MARKER}
+pub use Rattle.model.specs.Numbers.{BAD-COUNT, BAD-WIDTH, SHORT-IMAGE, BAD-JOB, WRONG-PHASE, NO-UNIT, WRONG-SIZE, BAD-MARKER, FOREIGN-MARKER, SUM-TOO-LARGE, NO-TOTAL}
 unfoldable pub use Rattle.model.specs.Plans.{badCount, badWidths}
 use Rattle.model.specs.Plans.{width}
 use Rattle.model.specs.Marker.{OK, isForeign}
+use Rattle.model.specs.Turns.{amount}
 
 -- A phase without its direction: "a phase (as above, without direction)" is what the ledger keeps.
 pub data Job : Type 0 where
@@ -115,4 +116,26 @@ beginNumber v u size =
     ∷ NO-UNIT when leb (v .plan .count) u
     ∷ WRONG-SIZE when not (eqb size (width (v .plan) u))
     ∷ BAD-MARKER when not (eqb (v .marker u) OK)
+    ∷ []))
+
+-- Ticket 7: "15 if the sum exceeds 64 bits, tested after 8; 16 if unit 0's width isn't 8, tested after 5". `held` are unit 0's bytes.
+unfoldable pub rideNumber : View → List ℕ → ℕ → ℕ
+rideNumber v held turns =
+    first
+    (deviceRow v
+    ++ (WRONG-PHASE when not (isReady (v .job))
+    ∷ NO-TOTAL when not (eqb (width (v .plan) 0) 8)
+    ∷ BAD-MARKER when not (eqb (v .marker 0) OK)
+    ∷ SUM-TOO-LARGE when ltb 18446744073709551615 (amount held + turns)
+    ∷ []))
+
+-- a unit's total as a number is refused as read is, and last if the unit is not eight bytes wide
+unfoldable pub totalNumber : View → ℕ → ℕ
+totalNumber v u =
+    first
+    (deviceRow v
+    ++ (WRONG-PHASE when not (isReady (v .job))
+    ∷ NO-UNIT when leb (v .plan .count) u
+    ∷ BAD-MARKER when not (eqb (v .marker u) OK)
+    ∷ NO-TOTAL when not (eqb (width (v .plan) u) 8)
     ∷ []))

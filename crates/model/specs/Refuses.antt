@@ -2,6 +2,8 @@
 -- call's arguments. It is proved in proofs/Refuses.antt that each call answers the lowest number whose condition holds, and 0
 -- exactly if none does. What a refused call leaves is in specs/Demands.antt.
 use Prim.Native.Nat.{ℕ, _+_, _*_, _≤_, _<_}
+use mathlib.Core.Bool.{cond}
+use lib.Dec.{eqb}
 use mathlib.Core.Path.{_≡_}
 use mathlib.Core.List.{List}
 use lib.ListN.{length}
@@ -9,15 +11,19 @@ use Rattle.model.specs.declared.Plan.{Plan}
 use Rattle.model.specs.declared.Direction.{Direction}
 use Rattle.model.specs.declared.Phase.the-variants.{Cold, Ready, Writing, Recovering}
 use Rattle.model.specs.Layout.{marker, width, total}
-use Rattle.model.specs.Refusals.{readNumber, inspectNumber}
+use Rattle.model.specs.Refusals.{readNumber, inspectNumber, totalNumber}
 use Rattle.model.specs.Calls.{Device, view}
 use Rattle.model.specs.Calls as calls
-use Rattle.model.specs.Demands.{at}
+use Rattle.model.specs.Demands.{at, held}
 
--- "0 is accepted. The lowest number that applies is given, and a refusal is given only when its condition holds."
-pub record Lowest (Applies : ℕ → Type 0) (n : ℕ) : Type 0 where
+-- "a refusal is given only when its condition holds", and of those whose conditions hold, the one that is tested first
+pub record First (order : ℕ → ℕ) (Applies : ℕ → Type 0) (n : ℕ) : Type 0 where
   pub given : ¬ (n ≡ 0) → Applies n
-  pub lowest : (k : ℕ) → Applies k → (1 ≤ n) × (n ≤ k)
+  pub first : (k : ℕ) → Applies k → (1 ≤ order n) × (order n ≤ order k)
+
+-- "0 is accepted. The lowest number that applies is given."
+abbrev pub Lowest : (ℕ → Type 0) → ℕ → Type 0
+Lowest Applies n = First (λ k. k) Applies n
 
 -- "The plan's author": 1 and 2
 pub data BadPlan (p : Plan) : ℕ → Type 0 where
@@ -67,15 +73,34 @@ pub data BadBegin (d : Device) (image : List ℕ) (u : ℕ) (payload : List ℕ)
   asRead : {n : ℕ} → BadRead d image u n → BadBegin d image u payload n
   size : ¬ (length payload ≡ width (d .plan) u) → BadBegin d image u payload 7
 
+-- Ticket 7: "15 if the sum exceeds 64 bits, tested after 8; 16 if unit 0's width isn't 8, tested after 5"
+pub data BadRide (d : Device) (image : List ℕ) (turns : ℕ) : ℕ → Type 0 where
+  device : {n : ℕ} → BadDevice d image n → BadRide d image turns n
+  phase : ¬ (d .phase ≡ Ready) → BadRide d image turns 5
+  otherWidth : ¬ (width (d .plan) 0 ≡ 8) → BadRide d image turns 16
+  mark : ¬ (at (d .plan) image 0 marker ≡ 1) → BadRide d image turns 8
+  large : 18446744073709551616 ≤ held (d .plan) image 0 + turns → BadRide d image turns 15
+
+-- so 1 to 5, 16, 8, 15
+abbrev pub rideOrder : ℕ → ℕ
+rideOrder n = cond (eqb n 16) 6 (cond (eqb n 8) 7 (cond (eqb n 15) 8 n))
+
+-- a unit's total as a number: refused as read is, and last where the unit is not eight bytes wide
+pub data BadTotal (d : Device) (image : List ℕ) (u : ℕ) : ℕ → Type 0 where
+  asRead : {n : ℕ} → BadRead d image u n → BadTotal d image u n
+  otherWidth : ¬ (width (d .plan) u ≡ 8) → BadTotal d image u 16
+
 -- ---- Every call's number, of every device, image and argument. "Cut and inspect give 1 to 4."
 pub record Refuses (d : Device) (image : List ℕ) : Type 0 where
   pub start : Lowest (BadPlan (d .plan)) (calls.start (d .plan) .number)
   pub format : Lowest (BadFormat d image) (calls.format d image .number)
   pub begin : (u : ℕ) (payload : List ℕ) → Lowest (BadBegin d image u payload) (calls.begin d image u payload .number)
+  pub ride : (turns : ℕ) → First rideOrder (BadRide d image turns) (calls.ride d image turns .number)
   pub step : Lowest (BadStep d image) (calls.step d image .number)
   pub wake : Lowest (BadWake d image) (calls.wake d image .number)
   pub cut : (m : ℕ) → Lowest (BadDevice d image) (calls.cut d image m .number)
   pub read : (u : ℕ) → Lowest (BadRead d image u) (readNumber (view d image) u)
+  pub total : (u : ℕ) → Lowest (BadTotal d image u) (totalNumber (view d image) u)
   pub inspect : Lowest (BadDevice d image) (inspectNumber (view d image))
 
 abbrev pub RefusedExactly : Type 0

@@ -11,7 +11,7 @@ use Rattle.model.specs.Plans.{width}
 use Rattle.model.specs.Refusals.{Job, cold, ready, writing, recovering}
 use Rattle.model.specs.Calls.{Device}
 use Rattle.model.specs.Calls as calls
-use Rattle.model.specs.Ledger.{Ledger, Call, begin, step, cut, wake, opening, told, fed}
+use Rattle.model.specs.Ledger.{Ledger, Call, begin, ride, step, cut, wake, opening, told, fed}
 use Rattle.model.specs.PowerCut.{run}
 
 -- ---- A sum over the accepted calls of a list. What a call adds is asked with the ledger before it.
@@ -26,6 +26,7 @@ overAccepted each p l (c ∷ cs) = ifAccepted (told p l c) (each l c) + overAcce
 -- "the completed stores of the list": an accepted step completes one
 abbrev pub completes : Ledger → Call → ℕ
 completes l (begin u payload) = 0
+completes l (ride turns) = 0
 completes l step = 1
 completes l (cut m) = 0
 completes l wake = 0
@@ -39,11 +40,13 @@ tornAt (recovering u made) = 1
 
 abbrev pub tears : Ledger → Call → ℕ
 tears l (begin u payload) = 0
+tears l (ride turns) = 0
 tears l step = 0
 tears l (cut m) = tornAt (l .job)
 tears l wake = 0
 
--- ---- The ceiling: "the sum of 2w + 3 over the accepted begins, plus, for each cut, 1 plus the largest width of the plan"
+-- ---- The ceiling: "the sum of 2w + 3 over the accepted begins, plus, for each cut, 1 plus the largest width of the plan".
+-- A ride is a begin of unit 0.
 -- the largest of the first n widths
 unfoldable pub widest : Plan → ℕ → ℕ
 widest p zero = 0
@@ -51,6 +54,7 @@ widest p (suc n) = max (widest p n) (width p n)
 
 abbrev pub allows : Plan → Ledger → Call → ℕ
 allows p l (begin u payload) = 2 * width p u + 3
+allows p l (ride turns) = 2 * width p 0 + 3
 allows p l step = 0
 allows p l (cut m) = 1 + widest p (p .count)
 allows p l wake = 0

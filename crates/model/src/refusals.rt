@@ -41,3 +41,9 @@ pub const BAD_ENTRY: u16 = 13;
 
 // A unit's marker is foreign: the memory is another product's.
 pub const FOREIGN_MARKER: u16 = 14;
+
+// A total would exceed 64 bits.
+pub const SUM_TOO_LARGE: u16 = 15;
+
+// The unit isn't eight bytes wide, so it holds no total.
+pub const NO_TOTAL: u16 = 16;

@@ -1,13 +1,15 @@
 -- Every list of calls has bytes that say it.
-use Prim.Native.Nat.{ℕ, suc, _+_, _*_, _/_, _%_, _<_}
+use Prim.Native.Nat.{ℕ, zero, suc, _+_, _*_, _/_, _%_, _<_}
 use mathlib.Core.Path.{_≡_, refl, ap, _∙_}
 use mathlib.Core.List.{List, [], _∷_, _++_}
 use native.Mathlib.Omega.{arith}
 use native.Mathlib.Nat.{div-add-mod'}
 use lib.ListN.{length, length-append}
-use lib.Seq.{take-append-seam, drop-append-seam}
-use Rattle.model.specs.Ledger.{Call, begin, step, cut, wake}
-use Rattle.recovery.specs.Encoding.{callOf, callsFrom, callsOf, encoded, bytesOfCall, bytesOf, Bytes, Handed, Encodes}
+use lib.Seq.{take-all, take-append-seam, drop-append-seam}
+use Rattle.model.specs.Ledger.{Call, begin, ride, step, cut, wake}
+use Rattle.model.specs.Turns.{inBytes}
+use Rattle.model.proofs.TurnLaws.{bytes-size, bytes-amount}
+use Rattle.recovery.specs.Encoding.{turnsIn, callOf, callsFrom, callsOf, encoded, bytesOfCall, bytesOf, Bytes, Handed, Encodes}
 use Rattle.recovery.proofs.Laws.{skip, whole}
 
 decoded : (kind u : ℕ) (own rest : List ℕ) → callsOf (encoded kind u own ++ rest) ≡ callOf kind u own ∷ callsOf rest
@@ -20,17 +22,30 @@ decoded kind u own rest =
     whole kind (u / 256 ∷ u % 256 ∷ n / 256 ∷ n % 256 ∷ (own ++ rest)) (omega (arith, length-append own rest))
     ∙ rw (size, unit, past, take-append-seam own rest, skip n (own ++ rest), drop-append-seam own rest)
 
-decoded-call : (c : Call) (rest : List ℕ) → callsOf (bytesOfCall c ++ rest) ≡ c ∷ callsOf rest
-unfolding callOf
-decoded-call step rest = decoded 0 0 [] rest
-decoded-call (begin u payload) rest = decoded 1 u payload rest
-decoded-call (cut m) rest = decoded 2 0 (m ∷ []) rest
-decoded-call wake rest = decoded 3 0 [] rest
+turns-in : (turns : ℕ) → turns < 18446744073709551616 → turnsIn (inBytes 8 turns) ≡ turns
+unfolding turnsIn
+turns-in turns h =
+    let size : length (inBytes 8 turns) ≡ 8 = bytes-size 8 turns in
+    rw (size, take-all 8 (inBytes 8 turns) (omega (arith, size))) (bytes-amount 8 turns (omega arith))
 
-decodes : (cs : List Call) → callsOf (bytesOf cs) ≡ cs
-unfolding bytesOf callsFrom
-decodes [] = refl
-decodes (c ∷ cs) = decoded-call c (bytesOf cs) ∙ ap (λ (l : List Call). c ∷ l) (decodes cs)
+abbrev Decodes : Call → Type 0
+Decodes c = (rest : List ℕ) → callsOf (bytesOfCall c ++ rest) ≡ c ∷ callsOf rest
+
+ride-decodes : (turns : ℕ) → turns < 18446744073709551616 → Decodes (ride turns)
+unfolding callOf
+ride-decodes turns h rest = decoded 4 0 (inBytes 8 turns) rest ∙ ap (λ (n : ℕ). ride n ∷ callsOf rest) (turns-in turns h)
+
+ahead : (c : Call) (cs : List Call) → Decodes c → callsOf (bytesOf cs) ≡ cs → callsOf (bytesOfCall c ++ bytesOf cs) ≡ c ∷ cs
+ahead c cs d e = d (bytesOf cs) ∙ ap (λ (l : List Call). c ∷ l) e
+
+decodes : (cs : List Call) → Handed cs → callsOf (bytesOf cs) ≡ cs
+unfolding bytesOf callsFrom callOf
+decodes [] h = refl
+decodes (step ∷ cs) h = ahead step cs (decoded 0 0 []) (decodes cs h)
+decodes (begin u payload ∷ cs) h = ahead (begin u payload) cs (decoded 1 u payload) (decodes cs (h .3))
+decodes (cut m ∷ cs) h = ahead (cut m) cs (decoded 2 0 (m ∷ [])) (decodes cs (h .1))
+decodes (wake ∷ cs) h = ahead wake cs (decoded 3 0 []) (decodes cs h)
+decodes (ride turns ∷ cs) h = ahead (ride turns) cs (ride-decodes turns (h .0)) (decodes cs (h .1))
 
 -- and they are bytes
 both : (xs ys : List ℕ) → Bytes xs → Bytes ys → Bytes (xs ++ ys)
@@ -41,13 +56,20 @@ framed : (kind u : ℕ) (own rest : List ℕ) → kind < 256 → u < 65536 → l
     → Bytes (encoded kind u own ++ rest)
 framed kind u own rest k hu n h r = (k, (omega arith, (omega arith, (omega arith, (omega arith, both own rest h r)))))
 
+all-bytes : (n v : ℕ) → Bytes (inBytes n v)
+unfolding inBytes
+all-bytes zero v = tt
+all-bytes (suc n) v = (omega arith, all-bytes n (v / 256))
+
 in-bytes : (cs : List Call) → Handed cs → Bytes (bytesOf cs)
 unfolding bytesOf
 in-bytes [] h = tt
 in-bytes (step ∷ cs) h = framed 0 0 [] (bytesOf cs) (omega arith) (omega arith) (omega arith) tt (in-bytes cs h)
 in-bytes (begin u payload ∷ cs) h = framed 1 u payload (bytesOf cs) (omega arith) (h .0) (h .1) (h .2) (in-bytes cs (h .3))
 in-bytes (cut m ∷ cs) h = framed 2 0 (m ∷ []) (bytesOf cs) (omega arith) (omega arith) (omega arith) (h .0, tt) (in-bytes cs (h .1))
+in-bytes (ride turns ∷ cs) h =
+    framed 4 0 (inBytes 8 turns) (bytesOf cs) (omega arith) (omega arith) (omega (arith, bytes-size 8 turns)) (all-bytes 8 turns) (in-bytes cs (h .1))
 in-bytes (wake ∷ cs) h = framed 3 0 [] (bytesOf cs) (omega arith) (omega arith) (omega arith) tt (in-bytes cs h)
 
 pub encodes : Encodes
-encodes cs = (decodes cs, in-bytes cs)
+encodes cs h = (decodes cs h, in-bytes cs h)

@@ -16,7 +16,8 @@ use Rattle.model.specs.declared.Phase.the-variants.{Cold, Ready, Writing, Recov
 use Rattle.model.specs.declared.Direction.{Direction}
 use Rattle.model.specs.Marker.{OK}
 use Rattle.model.specs.Plans.{badCount, badWidths}
-use Rattle.model.specs.Layout.{width}
+use Rattle.model.specs.Layout.{copyA, width}
+use Rattle.model.specs.Turns.{amount}
 use Rattle.model.specs.Refusals.{stepNumber, wakeNumber}
 use Rattle.model.specs.Calls.{Device, Outcome, outcome, asStarted, asWoken, view, mostStores, counted, cleanupFrom}
 use Rattle.model.specs.Calls as calls
@@ -25,12 +26,13 @@ use Rattle.model.specs.PowerCut.{call, run, answers, closedBy, repair, Repairs,
 use Rattle.model.specs.Steps.{steps}
 use Rattle.model.specs.Restart.{restarted, Leads, ended, called, lost}
 use Rattle.model.proofs.Compare.{equal, differ, same}
-use Rattle.model.proofs.RefusalLaws.{PlanOk, width-bounds}
+use Rattle.model.proofs.RefusalLaws.{PlanOk, count-bounds, width-bounds}
 use Rattle.model.proofs.StoreLaws.{none-found, lowest-found}
 use Rattle.model.proofs.Invariant.{Inv}
 use Rattle.model.proofs.Theorem.{accepts, along, format-opens, formats}
 use Rattle.model.proofs.Restart.{starts, power-cut-restarting}
 use Rattle.model.proofs.InARow.{steps-run}
+use Rattle.model.proofs.Totals.{turns-saved}
 use Rattle.store.specs.declared.Answer.{Answer}
 use Rattle.store.specs.Modelled.{modelled, Gives, Starts}
 use Rattle.store.proofs.Laws.{gives-as}
@@ -181,7 +183,7 @@ pub restored : (p : Plan) (before : List ℕ) (cs : List Call) (m : ℕ) (j left
     → j ≡ run (closedBy m cs) (calls.format (calls.start p .device) before) .image
     → ((n : ℕ) → calls.start p ≡ record { number = 0; device = asStarted p } → calls.wake (asStarted p) j .number ≡ 0 → Repairs p j n
     → Gives r left (run (repair n) (outcome 0 (asStarted p) j)))
-    → Fits p before → Restored p before (after p (opening p) (closedBy m cs)) r left
+    → Fits p before → Restored p before (closedBy m cs) r left
 unfolding answers run call
 restored p before cs m j left r e back fits =
     let ok = fits-ok p before fits in
@@ -204,6 +206,8 @@ restored p before cs m j left r e back fits =
       steps = ap (λ (d : Device). d .stores) (g .device) ∙ made .1 ∙ omega (arith, fresh, told-steps p before _ o inv (h .needed));
       markers = rw (g .image) (h .markers);
       copies = rw (g .image) (h .copies);
+      turns = λ q.
+          ap amount (rw (g .image) (h .copies 0 (count-bounds p ok .0) copyA)) ∙ turns-saved p (closedBy m cs) q;
       rest = rw (g .image) (h .rest);
       size = rw (g .image) (h .size);
     }

@@ -1,23 +1,29 @@
 -- Lists of calls as bytes. A call is
---   a byte for its kind: 1 begin, 2 cut, 3 wake, any other step;
+--   a byte for its kind: 1 begin, 2 cut, 3 wake, 4 ride, any other step;
 --   two bytes, the high one first: the unit, which only a begin looks at;
 --   two bytes, the high one first: how many bytes of its own follow;
---   and these: a begin's payload; the byte that a cut leaves is the first of them, or 0.
+--   and these: a begin's payload; the byte that a cut leaves is the first of them, or 0; a ride's turns are the first eight,
+--   lowest byte first, or 0 if there are fewer.
 -- So any bytes are a list of calls. Those at the end that are too few for a call are none.
 use Prim.Native.Nat.{ℕ, zero, suc, _+_, _*_, _/_, _%_, _<_}
 use mathlib.Core.Path.{_≡_}
 use mathlib.Core.List.{List, [], _∷_, _++_}
 use mathlib.Core.Bool.{cond}
-use lib.Dec.{eqb, leb}
+use lib.Dec.{eqb, ltb, leb}
 use lib.ListN.{length, getD, take, drop}
-use Rattle.model.specs.Ledger.{Call, begin, step, cut, wake}
+use Rattle.model.specs.Turns.{amount, inBytes}
+use Rattle.model.specs.Ledger.{Call, begin, ride, step, cut, wake}
 
 abbrev pub two : ℕ → ℕ → ℕ
 two high low = high * 256 + low
 
+unfoldable pub turnsIn : List ℕ → ℕ
+turnsIn own = cond (ltb (length own) 8) 0 (amount (take 8 own))
+
 unfoldable pub callOf : ℕ → ℕ → List ℕ → Call
 callOf kind unit own =
-    cond (eqb kind 1) (begin unit own) (cond (eqb kind 2) (cut (getD own 0 0)) (cond (eqb kind 3) wake step))
+    cond (eqb kind 1) (begin unit own)
+    (cond (eqb kind 2) (cut (getD own 0 0)) (cond (eqb kind 3) wake (cond (eqb kind 4) (ride (turnsIn own)) step)))
 
 -- the unit and the size, in what follows the kind
 abbrev pub unitIn : List ℕ → ℕ
@@ -38,7 +44,7 @@ callsFrom zero (kind ∷ rest) =
 abbrev pub callsOf : List ℕ → List Call
 callsOf bytes = callsFrom 0 bytes
 
--- ---- And back: every list of calls has its bytes.
+-- ---- And back: every list of calls that the library can be handed has its bytes.
 abbrev pub encoded : ℕ → ℕ → List ℕ → List ℕ
 encoded kind unit own = kind ∷ unit / 256 ∷ unit % 256 ∷ length own / 256 ∷ length own % 256 ∷ own
 
@@ -47,6 +53,7 @@ bytesOfCall step = encoded 0 0 []
 bytesOfCall (begin u payload) = encoded 1 u payload
 bytesOfCall (cut m) = encoded 2 0 (m ∷ [])
 bytesOfCall wake = encoded 3 0 []
+bytesOfCall (ride turns) = encoded 4 0 (inBytes 8 turns)
 
 unfoldable pub bytesOf : List Call → List ℕ
 bytesOf [] = []
@@ -56,14 +63,15 @@ abbrev pub Bytes : List ℕ → Type 0
 Bytes [] = Unit
 Bytes (x ∷ xs) = (x < 256) × Bytes xs
 
--- what the library's calls can be handed: a unit of 16 bits, bytes, and a payload of less than 65,536 of them
+-- what the library's calls can be handed: a unit of 16 bits, bytes, a payload of less than 65,536 of them, and turns of 64 bits
 abbrev pub Handed : List Call → Type 0
 Handed [] = Unit
 Handed (begin u payload ∷ cs) = (u < 65536) × (length payload < 65536) × Bytes payload × Handed cs
 Handed (cut m ∷ cs) = (m < 256) × Handed cs
+Handed (ride turns ∷ cs) = (turns < 18446744073709551616) × Handed cs
 Handed (step ∷ cs) = Handed cs
 Handed (wake ∷ cs) = Handed cs
 
 -- proved in proofs/Encodes.antt
 abbrev pub Encodes : Type 0
-Encodes = (cs : List Call) → (callsOf (bytesOf cs) ≡ cs) × (Handed cs → Bytes (bytesOf cs))
+Encodes = (cs : List Call) → Handed cs → (callsOf (bytesOf cs) ≡ cs) × Bytes (bytesOf cs)

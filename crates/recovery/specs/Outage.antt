@@ -9,8 +9,10 @@ use lib.ListN.{length, drop}
 use Rattle.model.specs.declared.Plan.{Plan}
 use Rattle.model.specs.declared.Phase.the-variants.{Ready}
 use Rattle.model.specs.Marker.{OK}
-use Rattle.model.specs.Layout.{Copy, marker, width, total, get, copyOf}
-use Rattle.model.specs.Ledger.{Ledger, cut, opening, after}
+use Rattle.model.specs.Layout.{Copy, copyA, marker, width, total, get, copyOf}
+use Rattle.model.specs.Turns.{amount}
+use Rattle.model.specs.Ledger.{Ledger, Call, cut, opening, after}
+use Rattle.model.specs.Totals.{turnsOver, NoBegin}
 use Rattle.store.specs.declared.Answer.{Answer}
 use Rattle.recovery.specs.Encoding.{callsOf}
 
@@ -20,23 +22,25 @@ pub record Fits (p : Plan) (image : List ℕ) : Type 0 where
   pub widths : (u : ℕ) → u < p .count → (1 ≤ width p u) × (width p u ≤ 256)
   pub long : total p ≤ length image
 
--- the ledger after the calls, and after the cut that closes them
-abbrev pub ledgerOf : Plan → List ℕ → ℕ → Ledger
-ledgerOf p calls m = after p (opening p) (callsOf calls ++ (cut m ∷ []))
+-- the calls, and the cut that closes them
+abbrev pub closed : List ℕ → ℕ → List Call
+closed calls m = callsOf calls ++ (cut m ∷ [])
 
 -- the steps that the repair takes: none if the marker of the unit last written is OK, else 1 plus the width of that unit
 abbrev pub repairSteps : Plan → Ledger → ℕ
 repairSteps p l = cond (eqb (l .marker) OK) 0 (1 + width p (l .unit))
 
--- r is the answer, `left` the image, and `before` the image before format.
-pub record Restored (p : Plan) (before : List ℕ) (l : Ledger) (r : Answer) (left : List ℕ) : Type 0 where
+-- `cs` are the calls with their cut, r is the answer, `left` the image, and `before` the image before format.
+pub record Restored (p : Plan) (before : List ℕ) (cs : List Call) (r : Answer) (left : List ℕ) : Type 0 where
   pub number : r .number ≡ 0
   pub phase : r .device .phase ≡ Ready
   -- the start after the cut set the count to 0, so it is the number of steps
-  pub steps : r .device .stores ≡ repairSteps p l
+  pub steps : r .device .stores ≡ repairSteps p (after p (opening p) cs)
   -- every marker is OK, and both copies of every unit are its saved bytes
   pub markers : (u : ℕ) → u < p .count → get p left u marker ≡ OK
-  pub copies : (u : ℕ) → u < p .count → (c : Copy) → copyOf p left u c ≡ l .saved u
+  pub copies : (u : ℕ) → u < p .count → (c : Copy) → copyOf p left u c ≡ after p (opening p) cs .saved u
+  -- where unit 0 is written by rides alone, it holds the turns of those that passed
+  pub turns : NoBegin 0 cs → amount (copyOf p left 0 copyA) ≡ turnsOver p cs
   -- the bytes after the units, and the image's length, are as they were
   pub rest : drop (total p) left ≡ drop (total p) before
   pub size : length left ≡ length before

@@ -78,6 +78,13 @@ fn phase_number(plan: Plan, phase: Phase, length: usize, wrong: bool) -> u16
     if wrong { WRONG_PHASE } else { 0 }
 }
 
+// Refusals 1 to 5 of the calls that want a Ready device.
+pub fn ready_number(plan: Plan, phase: Phase, length: usize) -> u16
+    ensures { λ r. ⌜ r ≡ first (imageRow plan phase length ++ (5 when not (isReady (jobOf phase)) ∷ [])) ⌝ }
+{
+    phase_number(plan, phase, length, not_ready(phase))
+}
+
 // Refusals 1 to 5 of format.
 pub fn format_number(plan: Plan, phase: Phase, image: &[u8]) -> u16
     ensures { λ r. ⌜ r ≡ formatNumber (viewOf plan phase (now (image .entry))) ⌝ }
@@ -96,7 +103,7 @@ pub fn step_number(plan: Plan, phase: Phase, image: &[u8]) -> u16
 pub fn begin_number(plan: Plan, phase: Phase, image: &[u8], unit: u16, size: usize) -> u16
     ensures { λ r. ⌜ r ≡ beginNumber (viewOf plan phase (now (image .entry))) unit size ⌝ }
 {
-    let number = phase_number(plan, phase, image.len(), not_ready(phase));
+    let number = ready_number(plan, phase, image.len());
     if number != 0 {
         return number;
     }

@@ -6,8 +6,9 @@ ghost use lib.ListN.{length, getD};
 ghost use Rattle.model.specs.Calls.{outcome, asStarted, start, format, wake};
 ghost use Rattle.model.specs.PowerCut.{call, run, closedBy, repair, Repairs};
 ghost use Rattle.store.specs.Modelled.{modelled, Gives};
-ghost use Rattle.recovery.specs.Encoding.{two, callOf, callsOf};
-ghost use Rattle.recovery.specs.Outage.{Fits, ledgerOf, Restored};
+ghost use Rattle.recovery.specs.Encoding.{two, turnsIn, callOf, callsOf};
+ghost use Rattle.recovery.specs.Outage.{Fits, closed, Restored};
+use amount::amount_of;
 use layout::width_of;
 use model::Phase;
 use model::Plan;
@@ -38,6 +39,16 @@ fn first_of(bytes: &[u8]) -> u8
     bytes[0]
 }
 
+// The turns of a ride: the first eight bytes, 0 if there are fewer.
+fn turns_of(bytes: &[u8]) -> u64
+    ensures { λ r. ⌜ r ≡ turnsIn (now (bytes .entry)) ⌝ }
+{
+    if bytes.len() < 8 {
+        return 0;
+    }
+    amount_of(&bytes[..8])
+}
+
 // One call of the list, with its own bytes.
 fn call(device: Device, image: &mut [u8], kind: u8, unit: u16, own: &[u8]) -> Answer
     ensures { λ r. ⌜ Gives r (now (image .exit))
@@ -51,6 +62,9 @@ fn call(device: Device, image: &mut [u8], kind: u8, unit: u16, own: &[u8]) -> An
     }
     if kind == 3 {
         return device.wake(image);
+    }
+    if kind == 4 {
+        return device.ride(image, turns_of(own));
     }
     device.step(image)
 }
@@ -125,7 +139,7 @@ fn come_back(plan: Plan, image: &mut [u8]) -> Answer
 // steps. The answer is the last step's, or the wake's if there is none to make.
 pub fn outage(plan: Plan, image: &mut [u8], calls: &[u8], m: u8) -> Answer
     ensures { λ r. ⌜ (Fits plan (now (image .entry))
-        → Restored plan (now (image .entry)) (ledgerOf plan (now (calls .entry)) m) r (now (image .exit))) ⌝ }
+        → Restored plan (now (image .entry)) (closed (now (calls .entry)) m) r (now (image .exit))) ⌝ }
 {
     until_cut(plan, image, calls, m);
     come_back(plan, image)

@@ -4,6 +4,7 @@ use mathlib.Core.Path.{_≡_}
 use mathlib.Core.List.{List}
 use Rattle.store.specs.declared.Device.{Device}
 use Rattle.store.specs.declared.Answer.{Answer}
+use Rattle.store.specs.declared.Total.{Total}
 use Rattle.model.specs.declared.Plan.{Plan}
 use Rattle.model.specs.declared.Phase.{Phase}
 use Rattle.model.specs.Calls as model
@@ -25,3 +26,8 @@ pub record Gives (r : Answer) (left : List ℕ) (o : model.Outcome) : Type 0 whe
 pub record Starts (r : Answer) (a : model.Answer) : Type 0 where
   pub number : r .number ≡ a .number
   pub device : modelled (r .device) ≡ a .device
+
+-- a total is looked at, and has neither
+pub record Shows (r : Total) (t : model.Total) : Type 0 where
+  pub number : r .number ≡ t .number
+  pub amount : r .amount ≡ t .amount

@@ -3,11 +3,12 @@
 // Every contract is an equation with the definitions of crates/model/specs/Calls.antt, or, for `steps`, of Steps.antt.
 ghost use mathlib.Core.Path.{_≡_};
 ghost use Rattle.model.specs.Refusals.{readNumber};
-ghost use Rattle.model.specs.Calls.{view, start, format, begin, step, wake, cut, read, inspect};
+ghost use Rattle.model.specs.Calls.{view, start, format, begin, ride, step, wake, cut, read, totalOf, inspect};
 ghost use Rattle.model.specs.Steps.{steps};
-ghost use Rattle.store.specs.Modelled.{modelled, blanked, Gives, Starts};
+ghost use Rattle.store.specs.Modelled.{modelled, blanked, Gives, Starts, Shows};
 use advance::advance;
 use advance::advance_by;
+use amount::amount_of;
 use format::format_units;
 use format::zero_filled;
 use lookup::device_number;
@@ -22,6 +23,9 @@ use refusal::begin_number;
 use refusal::format_number;
 use refusal::read_number;
 use refusal::wake_number;
+use ride::ridden;
+use ride::ride_number;
+use ride::total_number;
 use search::Found;
 use search::cleanup_from;
 use search::lowest_bad;
@@ -37,6 +41,12 @@ pub struct Device {
 // The device stands first: with the number before it a pass takes 130 instructions more, in copies (docs/tickets/05.md).
 pub struct Answer {
     pub device: Device,
+    pub number: u16,
+}
+
+// A unit's total; 0 when refused.
+pub struct Total {
+    pub amount: u64,
     pub number: u16,
 }
 
@@ -118,6 +128,33 @@ impl Device {
                     unit: unit,
                     made: 0,
                 },
+                stores: stores,
+            },
+        }
+    }
+
+    // Takes the turns of a ride: begins a write of unit 0, of the total that it holds and the turns. Refused: 1 to 5, 16 where unit 0
+    // isn't eight bytes wide, 8, and 15 where the sum exceeds 64 bits, in this order.
+    pub fn ride(self, image: &[u8], turns: u64) -> Answer
+        ensures { λ r. ⌜ Gives r (now (image .entry)) (ride (modelled self) (now (image .entry)) turns) ⌝ }
+    {
+        let plan = self.plan;
+        let phase = self.phase;
+        let stores = self.stores;
+        let number = ride_number(plan, phase, image, turns);
+        if number != 0 {
+            return Answer {
+                number: number,
+                device: self,
+            };
+        }
+        let summed = ridden(image, turns);
+        Answer {
+            number: 0,
+            device: Device {
+                plan: plan,
+                payload: summed,
+                phase: Phase::Writing { unit: 0, made: 0 },
                 stores: stores,
             },
         }
@@ -247,6 +284,26 @@ impl Device {
         let start = (span.base + span.a) as usize;
         let end = start + (span.width as usize);
         &image[start..end]
+    }
+
+    // The total that a unit holds, taken from copy A. Refused: as read, and 16 where the unit isn't eight bytes wide.
+    pub fn total(self, image: &[u8], unit: u16) -> Total
+        ensures { λ r. ⌜ Shows r (totalOf (modelled self) (now (image .entry)) unit) ⌝ }
+    {
+        let plan = self.plan;
+        let phase = self.phase;
+        let number = total_number(plan, phase, image, unit);
+        if number != 0 {
+            return Total {
+                amount: 0,
+                number: number,
+            };
+        }
+        let amount = amount_of(self.read(image, unit));
+        Total {
+            amount: amount,
+            number: 0,
+        }
     }
 
     // The lowest unit whose marker isn't OK, or that there is none. Refused: 1 to 4.

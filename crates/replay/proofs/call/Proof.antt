@@ -1,8 +1,8 @@
 -- `replay::call` meets its contract, by the kind.
 use borrow.Author.Tests.{eq-eqb, ne-eqb}
+use borrow.Author.Needs.{needs}
 use Rattle.model.specs.PowerCut.{call}
 use Rattle.recovery.specs.Encoding.{callOf}
-use borrow.Author.Needs.{needs}
 use Rattle.replay.proofs.call.Statement.{statement}
 use Rattle.replay.proofs.call.Tie as tie
 
@@ -39,15 +39,28 @@ returns-3 : tie.Need-returns-3
 unfolding call callOf
 returns-3 c = rw (ne-eqb _ 1 (c .before .before .before .before .if1 .left), ne-eqb _ 2 (c .before .before .before .if2 .left), eq-eqb _ 3 (c .before .before .if3 .taken)) (c .wake .ensures)
 
-step-requires : tie.Need-step-requires
-step-requires c κs = search needs
+turns-of-requires : tie.Need-turns-of-requires
+turns-of-requires c κs = search needs
+
+ride-requires : tie.Need-ride-requires
+ride-requires c κs = search needs
 
 same-length-4 : tie.Need-same-length-4
 same-length-4 c = search needs
 
 returns-4 : tie.Need-returns-4
 unfolding call callOf
-returns-4 c = rw (ne-eqb _ 1 (c .before .before .before .before .before .before .if1 .left), ne-eqb _ 2 (c .before .before .before .before .before .if2 .left), ne-eqb _ 3 (c .before .before .before .before .if3 .left)) (c .before .before .step .ensures)
+returns-4 c = rw (ne-eqb _ 1 (c .before .before .before .before .before .before .if1 .left), ne-eqb _ 2 (c .before .before .before .before .before .if2 .left), ne-eqb _ 3 (c .before .before .before .before .if3 .left), eq-eqb _ 4 (c .before .before .before .if4 .taken), ← c .before .turns-of .ensures) (c .ride .ensures)
+
+step-requires : tie.Need-step-requires
+step-requires c κs = search needs
+
+same-length-5 : tie.Need-same-length-5
+same-length-5 c = search needs
+
+returns-5 : tie.Need-returns-5
+unfolding call callOf
+returns-5 c = rw (ne-eqb _ 1 (c .before .before .before .before .before .before .before .if1 .left), ne-eqb _ 2 (c .before .before .before .before .before .before .if2 .left), ne-eqb _ 3 (c .before .before .before .before .before .if3 .left), ne-eqb _ 4 (c .before .before .before .before .if4 .left)) (c .before .before .step .ensures)
 
 pub call-spec : {M : Type 1} → statement M
 call-spec =
@@ -63,6 +76,10 @@ call-spec =
     wake-requires
     same-length-3
     returns-3
-    step-requires
+    turns-of-requires
+    ride-requires
     same-length-4
-    returns-4)
+    returns-4
+    step-requires
+    same-length-5
+    returns-5)

@@ -1,0 +1,68 @@
+// Rides: the turns of a ride are added to the total that unit 0 holds. What refuses a ride and a total, and what a ride writes.
+ghost use mathlib.Core.Path.{_≡_};
+ghost use Prim.Native.Nat.{_+_, _≤_};
+ghost use lib.ListN.{length, take, drop};
+ghost use Rattle.model.specs.Layout.{copyA, copyOf};
+ghost use Rattle.model.specs.Turns.{amount, plus};
+ghost use Rattle.model.specs.Refusals.{rideNumber, totalNumber};
+ghost use Rattle.model.specs.Calls.{viewOf, padded};
+use amount::amount_of;
+use amount::bytes_of;
+use format::zero_filled;
+use layout::width_of;
+use marker::Marker;
+use model::Phase;
+use model::Plan;
+use model::refusals::BAD_MARKER;
+use model::refusals::NO_TOTAL;
+use model::refusals::SUM_TOO_LARGE;
+use refusal::read_number;
+use refusal::ready_number;
+
+// The largest total.
+const MOST: u64 = 18446744073709551615;
+
+// Refusals 1 to 5, 16, 8 and 15 of a ride, in this order.
+pub fn ride_number(plan: Plan, phase: Phase, image: &[u8], turns: u64) -> u16
+    ensures { λ r. ⌜ r ≡ rideNumber (viewOf plan phase (now (image .entry))) (copyOf plan (now (image .entry)) 0 copyA) turns ⌝ }
+{
+    let number = ready_number(plan, phase, image.len());
+    if number != 0 {
+        return number;
+    }
+    if width_of(plan, 0) != 8 {
+        return NO_TOTAL;
+    }
+    if image[0] != Marker::OK {
+        return BAD_MARKER;
+    }
+    let total = amount_of(&image[1..9]);
+    if MOST - total < turns {
+        return SUM_TOO_LARGE;
+    }
+    0
+}
+
+// The payload of an accepted ride: unit 0's total in copy A, and the turns.
+pub fn ridden(image: &[u8], turns: u64) -> [u8; 256]
+    requires { ⌜ (9 ≤ length (now image)) × (amount (take 8 (drop 1 (now image))) + turns ≤ 18446744073709551615) ⌝ }
+    ensures { λ r. ⌜ r ≡ padded (plus (take 8 (drop 1 (now (image .entry)))) turns) ⌝ }
+{
+    let before = amount_of(&image[1..9]);
+    let bytes = bytes_of(before + turns);
+    zero_filled(&bytes)
+}
+
+// Refusals of a unit's total: read's, and then 16.
+pub fn total_number(plan: Plan, phase: Phase, image: &[u8], unit: u16) -> u16
+    ensures { λ r. ⌜ r ≡ totalNumber (viewOf plan phase (now (image .entry))) unit ⌝ }
+{
+    let number = read_number(plan, phase, image, unit);
+    if number != 0 {
+        return number;
+    }
+    if width_of(plan, unit) != 8 {
+        return NO_TOTAL;
+    }
+    0
+}
