@@ -1,7 +1,6 @@
 pub mod Cases
 pub mod Lines
 pub mod Room
-pub mod Copied
 pub mod Loaded
 pub mod Checked
 pub mod Passes

@@ -18,10 +18,10 @@ module _ (text table : List ℕ) (scratch : ℕ) where
   pub wrong-table : ¬ (length table ≡ 1280) → (11 ≡ number) × (table ≡ loaded text table scratch)
   wrong-table h = by-number 11 (sym (other-table text (length table) scratch h)) (λ z. absurd (omega arith))
 
-  pub too-short : scratch < 1280 → (11 ≡ number) × (table ≡ loaded text table scratch)
+  pub too-short : scratch < 64 → (11 ≡ number) × (table ≡ loaded text table scratch)
   too-short h = by-number 11 (sym (short-scratch text (length table) scratch h)) (λ z. absurd (omega arith))
 
-  module _ (fits : length table ≡ 1280) (room : 1280 ≤ scratch) where
+  module _ (fits : length table ≡ 1280) (room : 64 ≤ scratch) where
     pub bad-text : (k : ℕ) → k ≡ curveOf text .number → ¬ (k ≡ 0) → (k ≡ number) × (table ≡ loaded text table scratch)
     bad-text k e h = by-number k (e ∙ sym (by-text text (length table) scratch fits room)) h
 

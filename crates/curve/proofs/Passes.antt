@@ -4,18 +4,19 @@ use mathlib.Core.Path.{_≡_, refl, sym, _∙_}
 use mathlib.Core.Bool.{Bool, true, false, cond}
 use mathlib.Core.List.{List, [], _++_, append-assoc, append-nil}
 use native.Mathlib.Omega.{arith}
-use lib.Dec.{eqb, ltb}
+use lib.Dec.{ltb}
 use lib.ListN.{length, length-append}
 use lib.Seq.{drop-at, take-at}
 use borrow.Author.Tests.{eq-eqb, ne-eqb}
 use Rattle.model.proofs.Compare.{equal, differ, same}
 use Rattle.list.specs.declared.Kind.the-variants.{Entry}
-use Rattle.token.specs.Token.{lost}
 use Rattle.list.proofs.Values.{values-length}
 use Rattle.token.specs.Lines.{lineEnd, lineAt}
 use Rattle.row.specs.Row.{rowAt, rowOf, inRule, lowerOf, lineNumber}
+use Rattle.row.proofs.Line.{line-in-rule}
 use Rattle.curve.specs.Curve.{curve, linesFrom, curveOf, levelsGood, passes, badRoom, loadNumber, loaded}
 use Rattle.curve.specs.Promises.{LoadPasses}
+use Rattle.curve.proofs.Lines.{row-below}
 
 -- what is read of the n lines that are left, after the entries done
 record Left (n : ℕ) (done entries : List ℕ) : Type 0 where
@@ -27,21 +28,6 @@ record Left (n : ℕ) (done entries : List ℕ) : Type 0 where
 no-line-21 : (over : Bool) (done : List ℕ) → cond over (curve 12 []) (curve 0 done) .number ≡ 0 → cond over (curve 12 []) (curve 0 done) .entries ≡ done
 no-line-21 true done e = absurd (omega arith)
 no-line-21 false done e = refl
-
-in-rule : (inside formless good : Bool) → _≡_ {A = ℕ} (cond inside (cond formless 12 (cond good 0 13)) 12) 0 → good ≡ true
-in-rule false b g e = absurd (omega arith)
-in-rule true true g e = absurd (omega arith)
-in-rule true false true e = refl
-in-rule true false false e = absurd (omega arith)
-
-line-in-rule : (i : ℕ) (text : List ℕ) (at : ℕ) (done : List ℕ) → lineNumber i text at done ≡ 0
-    → inRule 0 (lowerOf done) (rowOf (i + 1) (lineAt text at)) ≡ true
-unfolding lineNumber
-line-in-rule i text at done e =
-    in-rule (ltb at (length text)) (eqb (rowAt (i + 1) (lineAt text at)) lost) (inRule 0 (lowerOf done) (rowOf (i + 1) (lineAt text at))) e
-
-row-below : (done row : List ℕ) → length row ≡ 64 → lowerOf (done ++ row) ≡ row
-row-below done row n = drop-at done row (length (done ++ row) - 64) (omega (arith, length-append done row))
 
 one-more : (n : ℕ) (lower row rest : List ℕ) → length row ≡ 64 → inRule 0 lower row ≡ true → levelsGood n row rest ≡ true
     → levelsGood (suc n) lower (row ++ rest) ≡ true

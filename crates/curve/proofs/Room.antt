@@ -10,8 +10,8 @@ use borrow.Author.Tests.{eq-eqb, ne-eqb, lt-ltb, le-ltb}
 use Rattle.model.proofs.Compare.{equal, differ, same}
 use Rattle.row.specs.Row.{lineNumber}
 use Rattle.row.proofs.Line.{line-never-11}
-use Rattle.curve.specs.Curve.{curve, linesFrom, curveOf, badRoom, loadNumber, loaded}
-use Rattle.curve.specs.Promises.{RefusedLeavesTheTable, RoomFor1280, SpareScratch}
+use Rattle.curve.specs.Curve.{curve, linesFrom, curveOf, badRoom, loadNumber, loaded, largeNumber, largeLoaded}
+use Rattle.curve.specs.Promises.{RefusedLeavesTheTable, RoomFor1280, SpareScratch, SmallAsLarge}
 
 -- ---- the room
 module _ (text : List ℕ) (table scratch : ℕ) where
@@ -22,12 +22,12 @@ module _ (text : List ℕ) (table scratch : ℕ) where
   pub other-table : ¬ (table ≡ 1280) → loadNumber text table scratch ≡ 11
   other-table h = no-room (rw (ne-eqb table 1280 h))
 
-  pub short-scratch : scratch < 1280 → loadNumber text table scratch ≡ 11
-  short-scratch h = no-room (rw (lt-ltb scratch 1280 h) (or-true (not (eqb table 1280))))
+  pub short-scratch : scratch < 64 → loadNumber text table scratch ≡ 11
+  short-scratch h = no-room (rw (lt-ltb scratch 64 h) (or-true (not (eqb table 1280))))
 
-  pub by-text : table ≡ 1280 → 1280 ≤ scratch → loadNumber text table scratch ≡ curveOf text .number
+  pub by-text : table ≡ 1280 → 64 ≤ scratch → loadNumber text table scratch ≡ curveOf text .number
   unfolding loadNumber
-  by-text fits room = rw (eq-eqb table 1280 fits, le-ltb scratch 1280 room)
+  by-text fits room = rw (eq-eqb table 1280 fits, le-ltb scratch 64 room)
 
 -- ---- no text gives 11
 lines-never-11 : (n : ℕ) (text : List ℕ) (at : ℕ) (done : List ℕ) → ¬ (linesFrom n text at done .number ≡ 11)
@@ -67,4 +67,25 @@ spare-scratch text table scratch other room room′ = (n, rw n)
         elim (same (length table) 1280) [
           | equal fits ↦ by-text text (length table) scratch fits room ∙ sym (by-text text (length table) other fits room′)
           | differ h ↦ other-table text (length table) scratch h ∙ sym (other-table text (length table) other h)
+        ]
+
+-- ---- the 1,280-number loader
+module _ (text : List ℕ) (table large : ℕ) where
+  large-other : ¬ (table ≡ 1280) → largeNumber text table large ≡ 11
+  unfolding largeNumber
+  large-other h = rw (ne-eqb table 1280 h)
+
+  large-by-text : table ≡ 1280 → 1280 ≤ large → largeNumber text table large ≡ curveOf text .number
+  unfolding largeNumber
+  large-by-text fits room = rw (eq-eqb table 1280 fits, le-ltb large 1280 room)
+
+pub small-as-large : SmallAsLarge
+unfolding loaded largeLoaded
+small-as-large text table scratch large room room′ = (n, rw n)
+  where
+    n : loadNumber text (length table) scratch ≡ largeNumber text (length table) large
+    n =
+        elim (same (length table) 1280) [
+          | equal fits ↦ by-text text (length table) scratch fits room ∙ sym (large-by-text text (length table) large fits room′)
+          | differ h ↦ other-table text (length table) scratch h ∙ sym (large-other text (length table) large h)
         ]

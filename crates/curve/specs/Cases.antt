@@ -47,26 +47,30 @@ EveryLine =
     map {A = Row} {B = ℕ × ℕ} (λ row. (lineNumber 0 (row .0) 0 [], lineNumber 1 (row .0) 0 (replicate 64 0))) rows
     ≡ map {A = Row} {B = ℕ × ℕ} (λ row. (row .1, row .2)) rows
 
--- a text, the lengths of table and scratch, and the load's number: a table of 1,280 exactly, a scratch of 1,280 or more
+-- a text, the lengths of table and scratch, and the load's number: a table of 1,280 exactly, a scratch of 64 or more
 abbrev Load : Type 0
 Load = List ℕ × ℕ × ℕ × ℕ
 
 unfoldable pub loads : List Load
 loads =
     ([], 0, 0, 11)
-    ∷ ([], 1279, 1280, 11)
-    ∷ ([], 1281, 1280, 11)
+    ∷ ([], 1279, 64, 11)
+    ∷ ([], 1281, 64, 11)
     ∷ ([], 1281, 1281, 11)
-    ∷ ([], 1280, 1279, 11)
-    ∷ ([], 1280, 64, 11)
+    ∷ ([], 64, 64, 11)
+    ∷ ([], 1280, 0, 11)
+    ∷ ([], 1280, 63, 11)
+    ∷ ([], 1280, 64, 12)
+    ∷ ([], 1280, 65, 12)
+    ∷ ([], 1280, 1279, 12)
     ∷ ([], 1280, 1280, 12)
-    ∷ ([], 1280, 1281, 12)
     ∷ ([], 1280, 65535, 12)
-    ∷ (line "(level 1 (" 63 "4096))", 1281, 1280, 11)
-    ∷ (line "(level 1 (" 63 "4096))", 1280, 1279, 11)
+    ∷ (line "(level 1 (" 63 "4096))", 1281, 64, 11)
+    ∷ (line "(level 1 (" 63 "4096))", 1280, 63, 11)
+    ∷ (line "(level 1 (" 63 "4096))", 1280, 64, 13)
     ∷ (line "(level 1 (" 63 "4096))", 1280, 1280, 13)
-    ∷ (line "(level 1 (" 63 "4096))", 1280, 2560, 13)
-    ∷ (line "(level 1 (" 63 "0))\n", 1280, 1280, 12)
+    ∷ (line "(level 1 (" 63 "0))\n", 1280, 63, 11)
+    ∷ (line "(level 1 (" 63 "0))\n", 1280, 64, 12)
     ∷ []
 
 abbrev pub EveryRoom : Type 0

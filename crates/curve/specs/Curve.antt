@@ -38,9 +38,10 @@ levelsGood (suc n) lower table = inRule 0 lower (take 64 table) && levelsGood n 
 abbrev pub passes : List ℕ → Bool
 passes table = eqb (length table) 1280 && levelsGood 20 [] table
 
--- "11 for a table that isn't 1,280 long or a scratch that is shorter, tested first"
+-- "11 for a table that isn't 1,280 long or a scratch that is shorter, tested first", and since Ticket 8, 'Curve loading in a small
+-- buffer': "a scratch under 64 now counts as too short under 11"
 abbrev pub badRoom : ℕ → ℕ → Bool
-badRoom table scratch = not (eqb table 1280) || ltb scratch 1280
+badRoom table scratch = not (eqb table 1280) || ltb scratch 64
 
 unfoldable pub loadNumber : List ℕ → ℕ → ℕ → ℕ
 loadNumber text table scratch = cond (badRoom table scratch) NO-ROOM (curveOf text .number)
@@ -48,3 +49,13 @@ loadNumber text table scratch = cond (badRoom table scratch) NO-ROOM (curveOf te
 -- "It goes into the lent table .. only if all of it is good; a refusal leaves the table as it was"
 unfoldable pub loaded : List ℕ → List ℕ → ℕ → List ℕ
 loaded text table scratch = cond (eqb (loadNumber text (length table) scratch) 0) (curveOf text .entries) table
+
+-- ---- "the 1,280-number loader" of Ticket 8, as Ticket 1 asked for it: for the comparison in Promises.antt alone
+abbrev largeBadRoom : ℕ → ℕ → Bool
+largeBadRoom table scratch = not (eqb table 1280) || ltb scratch 1280
+
+unfoldable pub largeNumber : List ℕ → ℕ → ℕ → ℕ
+largeNumber text table scratch = cond (largeBadRoom table scratch) NO-ROOM (curveOf text .number)
+
+unfoldable pub largeLoaded : List ℕ → List ℕ → ℕ → List ℕ
+largeLoaded text table scratch = cond (eqb (largeNumber text (length table) scratch) 0) (curveOf text .entries) table

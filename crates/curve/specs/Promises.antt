@@ -9,7 +9,7 @@ use Rattle.model.specs.Numbers.{NO-ROOM}
 use Rattle.model.specs.Drive.{driveNumber}
 use Rattle.brake.specs.Over.{driveOver}
 use Rattle.brake.specs.Table.{drives}
-use Rattle.curve.specs.Curve.{passes, loadNumber, loaded}
+use Rattle.curve.specs.Curve.{passes, loadNumber, loaded, largeNumber, largeLoaded}
 
 -- ---- Loading. A scratch counts by its length alone.
 
@@ -20,11 +20,12 @@ RefusedLeavesTheTable =
     → ¬ (loadNumber text (length table) scratch ≡ 0)
     → loaded text table scratch ≡ table
 
--- "11 for a table that isn't 1,280 long or a scratch that is shorter, tested first": for every text, and for nothing else
+-- "11 for a table that isn't 1,280 long ..", "a scratch under 64 now counts as too short under 11": for every text, and for nothing
+-- else
 pub record Room (text : List ℕ) (table scratch : ℕ) : Type 0 where
   pub otherTable : ¬ (table ≡ 1280) → loadNumber text table scratch ≡ NO-ROOM
-  pub shortScratch : scratch < 1280 → loadNumber text table scratch ≡ NO-ROOM
-  pub enough : table ≡ 1280 → 1280 ≤ scratch → ¬ (loadNumber text table scratch ≡ NO-ROOM)
+  pub shortScratch : scratch < 64 → loadNumber text table scratch ≡ NO-ROOM
+  pub enough : table ≡ 1280 → 64 ≤ scratch → ¬ (loadNumber text table scratch ≡ NO-ROOM)
 
 abbrev pub RoomFor1280 : Type 0
 RoomFor1280 = (text : List ℕ) (table scratch : ℕ) → Room text table scratch
@@ -33,10 +34,19 @@ RoomFor1280 = (text : List ℕ) (table scratch : ℕ) → Room text table scratc
 abbrev pub SpareScratch : Type 0
 SpareScratch =
     (text table : List ℕ) (scratch other : ℕ)
-    → 1280 ≤ scratch
-    → 1280 ≤ other
+    → 64 ≤ scratch
+    → 64 ≤ other
     → (loadNumber text (length table) scratch ≡ loadNumber text (length table) other)
     × (loaded text table scratch ≡ loaded text table other)
+
+-- Ticket 8: "For each text and table the refusal and the table afterwards equal those of the 1,280-number loader."
+abbrev pub SmallAsLarge : Type 0
+SmallAsLarge =
+    (text table : List ℕ) (scratch large : ℕ)
+    → 64 ≤ scratch
+    → 1280 ≤ large
+    → (loadNumber text (length table) scratch ≡ largeNumber text (length table) large)
+    × (loaded text table scratch ≡ largeLoaded text table large)
 
 -- "It goes into the lent table .. only if all of it is good": the table after a load that is accepted passes the check
 abbrev pub LoadPasses : Type 0

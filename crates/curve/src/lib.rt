@@ -1,24 +1,24 @@
-// Brake curves from the bike maker: a text of 20 levels by 64 entries is read into a lent scratch, and from there into the lent
-// table once all of it is known to be good. The contracts are equations with specs/Curve.antt.
+// Brake curves from the bike maker: a text of 20 levels by 64 entries is judged in a lent scratch that holds one row, and is read
+// again into the lent table once all of it is known to be good. The contracts are equations with specs/Curve.antt.
 use model::refusals::BAD_LINE;
 use model::refusals::NO_ROOM;
+use row::line_check;
 use row::line_into;
 ghost use mathlib.Core.Path.{_≡_};
 ghost use Prim.Native.Nat.{_≤_};
-ghost use lib.ListN.{length, take};
+ghost use lib.ListN.{length};
 ghost use Rattle.curve.specs.Curve.{curveOf, loadNumber, loaded};
 
-// Reads all lines into the scratch: 0, or the first line's number that has one. A line 21 is 12.
-fn read_lines(text: &[u8], scratch: &mut [u16]) -> u16
-    requires { ⌜ 1280 ≤ length (now scratch) ⌝ }
+// Judges all lines: 0, or the first line's number that has one. A line 21 is 12.
+fn check_lines(text: &[u8], scratch: &mut [u16]) -> u16
+    requires { ⌜ 64 ≤ length (now scratch) ⌝ }
     ensures { λ r. ⌜ (r ≡ curveOf (now (text .entry)) .number)
-        × (r ≡ 0 → take 1280 (now (scratch .exit)) ≡ curveOf (now (text .entry)) .entries)
         × (length (now (scratch .exit)) ≡ length (now (scratch .entry))) ⌝ }
 {
     let mut at: usize = 0;
     let mut i: usize = 0;
     while i < 20 {
-        let past = line_into(text, at, &mut scratch[..], i);
+        let past = line_check(text, at, &mut scratch[..], i);
         let number = past.number;
         if number != 0 {
             return number;
@@ -29,14 +29,16 @@ fn read_lines(text: &[u8], scratch: &mut [u16]) -> u16
     if at < text.len() { BAD_LINE } else { 0 }
 }
 
-fn copy(scratch: &[u16], table: &mut [u16])
-    requires { ⌜ (length (now table) ≡ 1280) × (1280 ≤ length (now scratch)) ⌝ }
-    ensures { λ _. ⌜ (now (table .exit) ≡ take 1280 (now (scratch .entry))) × (length (now (table .exit)) ≡ 1280) ⌝ }
+// Reads all lines of a text that is known to be good into the table.
+fn write_lines(text: &[u8], table: &mut [u16])
+    requires { ⌜ (length (now table) ≡ 1280) × (curveOf (now text) .number ≡ 0) ⌝ }
+    ensures { λ _. ⌜ (now (table .exit) ≡ curveOf (now (text .entry)) .entries) × (length (now (table .exit)) ≡ 1280) ⌝ }
 {
-    let mut i: usize = 0;
-    while i < table.len() {
-        table[i] = scratch[i];
-        i = i + 1;
+    let mut at: usize = 0;
+    let mut written: usize = 0;
+    while written < 20 {
+        at = line_into(text, at, &mut table[..], written);
+        written = written + 1;
     }
 }
 
@@ -50,13 +52,13 @@ pub fn load(text: &[u8], table: &mut [u16], scratch: &mut [u16]) -> u16
     if table.len() != 1280 {
         return NO_ROOM;
     }
-    if scratch.len() < 1280 {
+    if scratch.len() < 64 {
         return NO_ROOM;
     }
-    let refusal = read_lines(text, &mut scratch[..]);
+    let refusal = check_lines(text, &mut scratch[..]);
     if refusal != 0 {
         return refusal;
     }
-    copy(&scratch[..], &mut table[..]);
+    write_lines(text, &mut table[..]);
     refusal
 }

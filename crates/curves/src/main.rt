@@ -35,7 +35,7 @@ fn say_drive(table: &[u16], level: u16, rate: u16) {
 // Prints what a load of a text leaves.
 fn load_text(text: &[u8]) {
     let mut table = [7u16; 1280];
-    let mut scratch = [0u16; 1280];
+    let mut scratch = [0u16; 64];
     let number = load(text, &mut table, &mut scratch);
     say(b"load", number as usize);
     say(b"table", digest(&table));
@@ -74,16 +74,16 @@ fn say_room(table: &mut [u16], scratch: &mut [u16]) {
 // A table that is too short.
 fn say_short() {
     let mut short = [7u16; 1279];
-    let mut scratch = [0u16; 1280];
+    let mut scratch = [0u16; 64];
     say_room(&mut short, &mut scratch);
 }
 
-// Tables that are not 1,280 long, a scratch that is shorter, and a drive's refusals in their order.
+// Tables that are not 1,280 long, a scratch that is under 64, and a drive's refusals in their order.
 fn say_refusals() {
     let mut long = [7u16; 1281];
     let mut exact = [7u16; 1280];
-    let mut short = [7u16; 1279];
-    let mut scratch = [0u16; 1280];
+    let mut short = [0u16; 63];
+    let mut scratch = [0u16; 64];
     say_drive(&long, 0, 256);
     say_drive(&exact, 0, 256);
     say_drive(&exact, 20, 256);

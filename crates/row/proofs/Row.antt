@@ -1,8 +1,8 @@
 -- A line's form, by the code's own tests on what it read.
 use Prim.Native.Nat.{ℕ}
 use Prim.Native.Char.{code}
-use mathlib.Core.Path.{_≡_, sym, _∙_}
-use mathlib.Core.Bool.{cond, _&&_}
+use mathlib.Core.Path.{_≡_, refl, sym, _∙_}
+use mathlib.Core.Bool.{Bool, true, false, cond, _&&_}
 use mathlib.Core.List.{List}
 use lib.Dec.{eqb}
 use lib.ListN.{length}
@@ -36,3 +36,17 @@ module _ (l : ℕ) (line : List ℕ) (level : Item) (at : ℕ) (row : Items) (en
 
       pub of-form : end ≡ length line → at ≡ rowAt l line
       of-form e = sym (judged ∙ rw (eq-eqb (level .value) l is, eq-eqb (row .count) 64 full, eq-eqb end (length line) e))
+
+-- a line that is known to be of the form
+pub known-form : (l : ℕ) (line : List ℕ) (level : Item) (at : ℕ) → level ≡ entryAt line (wordAt line 0 (ascii "(level "))
+    → at ≡ wordAt line (level .next) (ascii " (") → ¬ (rowAt l line ≡ lost)
+    → at ≡ rowAt l line
+known-form l line level at el ea h =
+    let row : Items = itemsAt Entry line at 64 0 in
+    let end : ℕ = eatAt line (row .next) (code ")") in
+    let is = judged l line level at row end el ea refl refl in
+    go (eqb (level .value) l && eqb (row .count) 64 && eqb end (length line)) is
+  where
+    go : (formed : Bool) → rowAt l line ≡ cond formed at lost → at ≡ rowAt l line
+    go true e = sym e
+    go false e = absurd (h e)

@@ -1,61 +1,54 @@
 -- One entry after another: the scratch, the rules and the entries that are left, a turn of the loop at a time.
-use Prim.Native.Nat.{ℕ, suc, _+_, _-_, _*_, _≤_, _<_}
+use Prim.Native.Nat.{ℕ, suc, _+_, _-_, _≤_, _<_}
 use mathlib.Core.Path.{_≡_, refl, ap, sym, _∙_}
 use mathlib.Core.Bool.{Bool, true, false, _&&_, _||_}
 use mathlib.Core.List.{List, [], _∷_, _++_}
 use native.Mathlib.Omega.{arith}
 use native.Mathlib.Numerals.{add-one}
-use lib.Dec.{ltb, leb}
+use lib.Dec.{eqb, ltb, leb}
 use lib.ListN.{length, take, drop, getD, set}
-use lib.Seq.{take-suc-set, append-snoc, drop-cons, drop-drop, drop-nil, getD-take}
-use borrow.Author.Tests.{lt-ltb, le-ltb, leb-true}
-use Rattle.model.proofs.Compare.{below, above, order}
+use lib.Seq.{take-suc-set, append-snoc, drop-cons, drop-drop, drop-nil, getD-take, getD-drop, length-take-le}
+use borrow.Author.Tests.{eq-eqb, ne-eqb, leb-true}
+use Rattle.model.proofs.Compare.{equal, differ, same}
+use Rattle.model.proofs.RefusalLaws.{and-true}
 use Rattle.list.specs.declared.Kind.the-variants.{Entry}
 use Rattle.token.specs.declared.Item.{Item}
 use Rattle.token.specs.Token.{eatAt, entryAt}
 use Rattle.list.specs.List.{itemAt}
 use Rattle.list.specs.Items.{valuesAt}
-use Rattle.row.specs.Row.{higher, inRule, lowerOf}
+use Rattle.row.specs.Row.{higher, inRule, small, rowBelow}
 
--- the code's test of one entry at place `at`, after `before` on its line
-abbrev pub tested : List ℕ → ℕ → ℕ → ℕ → Bool
-tested scratch at before x = leb x 4095 && leb before x && (ltb at 64 || ltb (getD scratch (at - 64) 0) x)
+-- the code's test of one entry of bin j, after `before` on its line and after i lines
+abbrev pub tested : ℕ → List ℕ → ℕ → ℕ → ℕ → Bool
+tested i scratch j before x = leb x 4095 && leb before x && (eqb i 0 || ltb (getD scratch j 0) x)
 
-empty : (xs : List ℕ) → length xs ≡ 0 → xs ≡ []
-empty [] e = refl
-empty (x ∷ xs) e = absurd (omega arith)
+-- ---- the row one level lower: of what the scratch held at first, the entries from bin j on still stand
+module _ (i : ℕ) (scratch first : List ℕ) (long : 64 ≤ length first) (j x : ℕ) (is : drop j scratch ≡ drop j first) (high : j < 64) where
+  held : getD first j 0 ≡ getD scratch j 0
+  held =
+      let n : j + 0 ≡ j = omega arith in
+      rw n at (sym (getD-drop j first 0 0) ∙ ap (λ (xs : List ℕ). getD xs 0 0) (sym is) ∙ getD-drop j scratch 0 0)
 
--- ---- the entries of i lines stand in front of the scratch, and `at` is a place of the next
-module _ (i : ℕ) (scratch done : List ℕ) (is : take (64 * i) scratch ≡ done) (long : length done ≡ 64 * i) (at x : ℕ)
-    (low : 64 * i ≤ at) (high : at < 64 * i + 64) where
-  lower-at : 0 < i → drop (at - 64 * i) (lowerOf done) ≡ getD scratch (at - 64) 0 ∷ drop (suc (at - 64)) done
-  lower-at h =
-      let n : length done - 64 + (at - 64 * i) ≡ at - 64 = omega arith in
-      drop-drop (at - 64 * i) (length done - 64) done ∙ rw n
-      (drop-cons done (at - 64) 0 (omega arith)
-      ∙ ap (λ (y : ℕ). y ∷ drop (suc (at - 64)) done) (rw (sym is) (getD-take (64 * i) scratch (at - 64) 0 (omega arith))))
+  lower-at : drop j (take 64 first) ≡ getD scratch j 0 ∷ drop (suc j) (take 64 first)
+  lower-at =
+      drop-cons (take 64 first) j 0 (omega (arith, length-take-le 64 first long))
+      ∙ ap (λ (y : ℕ). y ∷ drop (suc j) (take 64 first)) (getD-take 64 first j 0 high ∙ held)
 
-  above-at : higher (drop (at - 64 * i) (lowerOf done)) x ≡ (ltb at 64 || ltb (getD scratch (at - 64) 0) x)
+  above-at : higher (drop j (rowBelow i first)) x ≡ (eqb i 0 || ltb (getD scratch j 0) x)
   above-at =
-      elim (order 0 i) [
-        | below h ↦ rw (lower-at h, le-ltb at 64 (omega arith))
-        | above h ↦
-            let none : done ≡ [] = empty done (omega arith) in
-            rw (none, drop-nil (length {A = ℕ} [] - 64), drop-nil (at - 64 * i), lt-ltb at 64 (omega arith))
+      elim (same i 0) [
+        | equal z ↦ rw (eq-eqb i 0 z, drop-nil j)
+        | differ h ↦ rw (ne-eqb i 0 h, lower-at)
       ]
 
   -- what the code found: `good`
-  module _ (before : ℕ) (row : List ℕ) (good : Bool) (e : good ≡ tested scratch at before x) where
-    abbrev left : List ℕ
-    left = drop (at - 64 * i) (lowerOf done)
-
-    pub rule-goes-on : good ≡ true → inRule before left (x ∷ row) ≡ inRule x (drop (at + 1 - 64 * i) (lowerOf done)) row
+  module _ (before : ℕ) (row : List ℕ) (good : Bool) (e : good ≡ tested i scratch j before x) where
+    pub rule-goes-on : good ≡ true
+        → inRule before (drop j (rowBelow i first)) (x ∷ row) ≡ inRule x (drop (j + 1) (rowBelow i first)) row
     unfolding inRule
-    rule-goes-on f =
-        let n : at + 1 - 64 * i ≡ at - 64 * i + 1 = omega arith in
-        rw (above-at, sym e ∙ f, n, drop-drop 1 (at - 64 * i) (lowerOf done))
+    rule-goes-on f = rw (above-at, sym e ∙ f, drop-drop 1 j (rowBelow i first))
 
-    pub rule-ends : good ≡ false → inRule before left (x ∷ row) ≡ false
+    pub rule-ends : good ≡ false → inRule before (drop j (rowBelow i first)) (x ∷ row) ≡ false
     unfolding inRule
     rule-ends f = rw (above-at, sym e ∙ f)
 
@@ -75,10 +68,31 @@ pub stored-on : (scratch whole rest : List ℕ) (at x : ℕ) → at < length scr
     → take (at + 1) (set scratch at x) ++ rest ≡ whole
 stored-on scratch whole rest at x h e = rw (add-one at, take-suc-set scratch at x h) (append-snoc (take at scratch) x rest ∙ e)
 
+-- what stands from a place on stands from the next on
+pub drop-more : (j : ℕ) (xs ys : List ℕ) → drop j xs ≡ drop j ys → drop (j + 1) xs ≡ drop (j + 1) ys
+drop-more j xs ys e = sym (drop-drop 1 j xs) ∙ ap (drop 1) e ∙ drop-drop 1 j ys
+
 both : (x y : Bool) → x && y ≡ true → x ≡ true
 both true y e = refl
 both false y e = e
 
-pub tested-small : (scratch : List ℕ) (at before x : ℕ) (good : Bool) → good ≡ tested scratch at before x → good ≡ true → x ≤ 4095
-tested-small scratch at before x good e f =
-    leb-true x 4095 (both (leb x 4095) (leb before x) (both (leb x 4095 && leb before x) (ltb at 64 || ltb (getD scratch (at - 64) 0) x) (sym e ∙ f)))
+pub tested-small : (i : ℕ) (scratch : List ℕ) (j before x : ℕ) (good : Bool) → good ≡ tested i scratch j before x → good ≡ true → x ≤ 4095
+tested-small i scratch j before x good e f =
+    leb-true x 4095 (both (leb x 4095) (leb before x) (both (leb x 4095 && leb before x) (eqb i 0 || ltb (getD scratch j 0) x) (sym e ∙ f)))
+
+-- ---- a row known to be small
+pub small-first : (x : ℕ) (row : List ℕ) → small (x ∷ row) ≡ true → x ≤ 4095
+unfolding small
+small-first x row e = leb-true x 4095 (both (leb x 4095) (small row) e)
+
+pub small-rest : (x : ℕ) (row : List ℕ) → small (x ∷ row) ≡ true → small row ≡ true
+unfolding small
+small-rest x row e = and-true (leb x 4095) (small row) e .1
+
+pub rule-small : (before : ℕ) (lower row : List ℕ) → inRule before lower row ≡ true → small row ≡ true
+unfolding inRule small
+rule-small before lower [] e = refl
+rule-small before lower (x ∷ row) e =
+    let a = and-true (leb x 4095 && leb before x && higher lower x) (inRule x (drop 1 lower) row) e in
+    let first = both (leb x 4095) (leb before x) (both (leb x 4095 && leb before x) (higher lower x) (a .0)) in
+    rw first (rule-small x (drop 1 lower) row (a .1))

@@ -5,7 +5,7 @@ use Prim.Native.Char.{code}
 use mathlib.Core.Bool.{Bool, true, cond, _&&_}
 use mathlib.Core.List.{List, [], _∷_}
 use lib.Dec.{eqb, ltb, leb}
-use lib.ListN.{length, drop}
+use lib.ListN.{length, take, drop}
 use Rattle.model.specs.Numbers.{BAD-LINE, BAD-ENTRY}
 use Rattle.token.specs.Ascii.{ascii}
 use Rattle.token.specs.declared.Item.{Item}
@@ -40,9 +40,18 @@ unfoldable pub inRule : ℕ → List ℕ → List ℕ → Bool
 inRule before lower [] = true
 inRule before lower (x ∷ row) = (leb x 4095 && leb before x && higher lower x) && inRule x (drop 1 lower) row
 
+-- "Every entry is at most 4,095", and no more: what the reading of a row that was judged before rests on
+unfoldable pub small : List ℕ → Bool
+small [] = true
+small (x ∷ row) = leb x 4095 && small row
+
 -- the last 64 of the entries so far, or none
 abbrev pub lowerOf : List ℕ → List ℕ
 lowerOf done = drop (length done - 64) done
+
+-- Ticket 8, 'Curve loading in a small buffer': the same for the line after i others, of a scratch that holds the last row alone
+abbrev pub rowBelow : ℕ → List ℕ → List ℕ
+rowBelow i scratch = cond (eqb i 0) [] (take 64 scratch)
 
 -- "12 for a line not of this form, a missing line (it counts at its place) ..; 13 for a value out of rule": of the line after i others,
 -- at an offset of the text. Within a line the form is judged before any value.

@@ -18,20 +18,21 @@ returns-2 c = let a = c .before .before .before .before .before .args in
     let w = too-short (now (a .text)) (now (a .table)) (length (now (a .scratch))) (omega (arith, c .if2 .taken)) in
     (w .0, w .1, refl, refl)
 
-read-lines-requires : tie.Need-read-lines-requires
-read-lines-requires c κs = omega (arith, c .before .if2 .left)
+check-lines-requires : tie.Need-check-lines-requires
+check-lines-requires c κs = omega (arith, c .before .if2 .left)
 
 same-length : tie.Need-same-length
 same-length c = search needs
 
 returns-3 : tie.Need-returns-3
 returns-3 c = let a = c .before .before .before .before .before .before .before .before .before .before .args in
-    let r = c .before .before .before .read-lines .ensures in
+    let r = c .before .before .before .check-lines .ensures in
     let w = bad-text (now (a .text)) (now (a .table)) (length (now (a .scratch))) (omega (arith, c .before .before .before .before .before .before .if1 .left)) (c .before .before .before .before .before .if2 .left) _ (r .0) (λ z. absurd (omega (arith, c .if3 .taken, z))) in
-    (w .0, w .1, refl, r .2)
+    (w .0, w .1, refl, r .1)
 
-copy-requires : tie.Need-copy-requires
-copy-requires c κs = (omega (arith, c .before .before .before .before .before .before .before .before .if1 .left), omega (arith, c .before .before .before .before .before .read-lines .ensures .2, c .before .before .before .before .before .before .before .if2 .left))
+write-lines-requires : tie.Need-write-lines-requires
+write-lines-requires c κs = let r = c .before .before .before .before .check-lines .ensures in
+    (omega (arith, c .before .before .before .before .before .before .before .if1 .left), sym (r .0) ∙ omega (arith, c .before .if3 .left))
 
 same-length-2 : tie.Need-same-length-2
 same-length-2 c = search needs
@@ -40,13 +41,13 @@ same-length-3 : tie.Need-same-length-3
 same-length-3 c = search needs
 
 returns-4 : tie.Need-returns-4
-returns-4 c = let a = c .before .before .before .before .before .before .before .before .before .before .before .before .before .before .before .args in
-    let r = c .before .before .before .before .before .before .before .before .read-lines .ensures in
-    let fits : length (now (a .table)) ≡ 1280 = omega (arith, c .before .before .before .before .before .before .before .before .before .before .before .if1 .left) in
-    let good : c .before .before .before .before .before .before .before .before .read-lines .result ≡ 0 = omega (arith, c .before .before .before .before .before .if3 .left) in
-    let copied = c .before .before .copy .ensures in
-    let w = good-text (now (a .text)) (now (a .table)) (length (now (a .scratch))) fits (c .before .before .before .before .before .before .before .before .before .before .if2 .left) _ _ (r .0) good (copied .0 ∙ r .1 good) in
-    (w .0, w .1, copied .1 ∙ sym fits, r .2)
+returns-4 c = let a = c .before .before .before .before .before .before .before .before .before .before .before .before .before .before .args in
+    let r = c .before .before .before .before .before .before .before .check-lines .ensures in
+    let fits : length (now (a .table)) ≡ 1280 = omega (arith, c .before .before .before .before .before .before .before .before .before .before .if1 .left) in
+    let good : c .before .before .before .before .before .before .before .check-lines .result ≡ 0 = omega (arith, c .before .before .before .before .if3 .left) in
+    let written = c .before .before .write-lines .ensures in
+    let w = good-text (now (a .text)) (now (a .table)) (length (now (a .scratch))) fits (c .before .before .before .before .before .before .before .before .before .if2 .left) _ _ (r .0) good (written .0) in
+    (w .0, w .1, written .1 ∙ sym fits, r .1)
 
 pub load-spec : {M : Type 1} → statement M
 load-spec =
@@ -54,10 +55,10 @@ load-spec =
     (tie.spec
     returns
     returns-2
-    read-lines-requires
+    check-lines-requires
     same-length
     returns-3
-    copy-requires
+    write-lines-requires
     same-length-2
     same-length-3
     returns-4)

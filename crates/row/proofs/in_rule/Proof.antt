@@ -1,8 +1,7 @@
 -- `row::in_rule` meets its contract: the tests in the definition's order.
 use borrow.Author.Needs.{needs}
 use native.Mathlib.Omega.{arith}
-use Prim.Native.Nat.{_-_}
-use borrow.Author.Tests.{lt-leb, le-leb, lt-ltb, le-ltb}
+use borrow.Author.Tests.{lt-leb, le-leb, eq-eqb, ne-eqb}
 use Rattle.row.proofs.in_rule.Statement.{statement}
 use Rattle.row.proofs.in_rule.Tie as tie
 
@@ -16,7 +15,7 @@ returns-2 c = let a = c .before .before .args in
 
 returns-3 : tie.Need-returns-3
 returns-3 c = let a = c .before .before .before .args in
-    rw (le-leb (a .value) 4095 (omega (arith, c .before .before .if1 .left)), le-leb _ _ (c .before .if2 .left), lt-ltb (a .at) 64 (omega (arith, c .if3 .taken)))
+    rw (le-leb (a .value) 4095 (omega (arith, c .before .before .if1 .left)), le-leb _ _ (c .before .if2 .left), eq-eqb (a .i) 0 (omega (arith, c .if3 .taken)))
 
 mul-lower : tie.Need-mul-lower
 mul-lower c = search needs
@@ -25,20 +24,13 @@ shared-slice-read-lower : tie.Need-shared-slice-read-lower
 shared-slice-read-lower c = search needs
 
 cast-lower : tie.Need-cast-lower
-cast-lower c = omega (arith, c .shared-slice-known .given (c .before .before .before .before .args .at - 64))
+cast-lower c = omega (arith, c .shared-slice-known .given (c .before .before .before .before .args .j))
 
 returns-4 : tie.Need-returns-4
 returns-4 c = let a = c .before .before .before .before .args in
-    rw (le-leb (a .value) 4095 (omega (arith, c .before .before .before .if1 .left)), le-leb _ _ (c .before .before .if2 .left), le-ltb (a .at) 64 (omega (arith, c .before .if3 .left)))
+    rw (le-leb (a .value) 4095 (omega (arith, c .before .before .before .if1 .left)), le-leb _ _ (c .before .before .if2 .left), ne-eqb (a .i) 0 (λ z. absurd (omega (arith, c .before .if3 .left, z))))
 
 pub in-rule-spec : {M : Type 1} → statement M
 in-rule-spec =
     tie.close
-    (tie.spec
-    returns
-    returns-2
-    returns-3
-    mul-lower
-    shared-slice-read-lower
-    cast-lower
-    returns-4)
+    (tie.spec returns returns-2 returns-3 mul-lower shared-slice-read-lower cast-lower returns-4)

@@ -1,44 +1,33 @@
--- `row::line_into` meets its contract: the line is missing, or not of the form, or out of rule, or the next row.
+-- `row::line_into` meets its contract: the line is known to be good, so its entries are the next row.
 use borrow.Author.Needs.{needs}
 use native.Mathlib.Omega.{arith}
 use denote.Ref.{now}
-use mathlib.Core.Path.{refl, ap, _∙_}
+use mathlib.Core.Path.{ap, _∙_}
 use mathlib.Core.List.{_++_}
-use Prim.Native.Nat.{_+_, _-_, _*_}
+use Prim.Native.Nat.{_+_, _*_}
 use lib.ListN.{take}
 use Rattle.token.specs.Lines.{lineEnd}
-use Rattle.row.proofs.Line.{line-missing, line-formless, line-good, line-bad, is-row}
+use Rattle.row.specs.Row.{small}
+use Rattle.row.proofs.Turn.{rule-small}
+use Rattle.row.proofs.Line.{line-inside, line-in-rule, known-row}
 use Rattle.row.proofs.line_into.Statement.{statement}
 use Rattle.row.proofs.line_into.Tie as tie
 
-returns : tie.Need-returns
-returns c = let a = c .before .before .before .args in
-    (line-missing (a .i) (now (a .text)) (a .at) (take (64 * a .i) (now (a .scratch))) (c .if1 .taken), λ z. absurd (omega arith), refl)
-
 find-requires : tie.Need-find-requires
-find-requires c κs = search needs
+find-requires c κs = let a = c .before .before .args in
+    (omega (arith, line-inside (a .i) (now (a .text)) (a .at) _ (c .before .before .pre .2)), search needs)
 
-sub-row-at : tie.Need-sub-row-at
-sub-row-at c = search needs
+sub-entries-at : tie.Need-sub-entries-at
+sub-entries-at c = search needs
 
-part-row-at-start : tie.Need-part-row-at-start
-part-row-at-start c = search needs
+part-entries-at-start : tie.Need-part-entries-at-start
+part-entries-at-start c = search needs
 
-part-row-at-end : tie.Need-part-row-at-end
-part-row-at-end c = search needs
+part-entries-at-end : tie.Need-part-entries-at-end
+part-entries-at-end c = search needs
 
-add-row-at : tie.Need-add-row-at
-add-row-at c = search needs
-
-row-at-requires : tie.Need-row-at-requires
-row-at-requires c κs = search needs
-
-returns-2 : tie.Need-returns-2
-unfolding lineEnd
-returns-2 c = let a = c .before .before .before .before .before .before .before .args in
-    let text = now (a .text) in
-    let end = c .before .before .before .find .ensures .0 in
-    (line-formless (a .i) text (a .at) (take (64 * a .i) (now (a .scratch))) (c .before .before .before .before .if1 .left) _ end _ refl _ (c .before .row-at .ensures) (c .if2 .taken), λ z. absurd (omega arith), refl)
+entries-at-requires : tie.Need-entries-at-requires
+entries-at-requires c κs = search needs
 
 sub-row-into : tie.Need-sub-row-into
 sub-row-into c = search needs
@@ -50,54 +39,41 @@ part-row-into-end : tie.Need-part-row-into-end
 part-row-into-end c = search needs
 
 row-into-requires : tie.Need-row-into-requires
-row-into-requires c κs = c .before .before .before .before .before .before .before .before .before .pre
+unfolding lineEnd
+row-into-requires c κs = let a = c .before .before .before .before .before .before .before .args in
+    let pre = c .before .before .before .before .before .before .before .pre in
+    let done = take (64 * a .i) (now (a .table)) in
+    let row = known-row (a .i) (now (a .text)) (a .at) done (pre .2) _ (c .before .before .before .before .find .ensures .0) _ (c .before .before .entries-at .ensures) in
+    (pre .0, pre .1, ap small row ∙ rule-small 0 _ _ (line-in-rule (a .i) (now (a .text)) (a .at) done (pre .2)))
 
-add-t19 : tie.Need-add-t19
-add-t19 c = omega (arith, c .before .before .before .before .before .before .before .before .before .before .before .before .before .good)
+add-result : tie.Need-add-result
+add-result c = search needs
 
 same-length : tie.Need-same-length
 same-length c = search needs
 
-returns-3 : tie.Need-returns-3
+returns : tie.Need-returns
 unfolding lineEnd
-returns-3 c = let a = c .before .before .before .before .before .before .before .before .before .before .before .before .before .args in
-    let text = now (a .text) in
-    let end = c .before .before .before .before .before .before .before .before .before .find .ensures .0 in
-    let r = c .before .before .before .row-into .ensures in (
-      line-good (a .i) text (a .at) (take (64 * a .i) (now (a .scratch))) (c .before .before .before .before .before .before .before .before .before .before .if1 .left) _ end _ refl _ (c .before .before .before .before .before .before .before .row-at .ensures) _ (r .0) (c .before .before .before .before .before .before .if2 .left) (c .if3 .taken),
-      λ z. (ap (λ n. n + 1) end, r .1 (c .if3 .taken) ∙ ap (λ row. take (64 * a .i) (now (a .scratch)) ++ row) (is-row (a .i) text (a .at) (take (64 * a .i) (now (a .scratch))) (c .before .before .before .before .before .before .before .before .before .before .if1 .left) _ end _ refl _ (c .before .before .before .before .before .before .before .row-at .ensures))),
-      r .2,
-    )
-
-same-length-2 : tie.Need-same-length-2
-same-length-2 c = search needs
-
-returns-4 : tie.Need-returns-4
-unfolding lineEnd
-returns-4 c = let a = c .before .before .before .before .before .before .before .before .before .before .before .before .before .args in
-    let text = now (a .text) in
-    let end = c .before .before .before .before .before .before .before .before .before .find .ensures .0 in
-    let r = c .before .before .before .row-into .ensures in
-    (line-bad (a .i) text (a .at) (take (64 * a .i) (now (a .scratch))) (c .before .before .before .before .before .before .before .before .before .before .if1 .left) _ end _ refl _ (c .before .before .before .before .before .before .before .row-at .ensures) _ (r .0) (c .before .before .before .before .before .before .if2 .left) (c .if3 .left), λ z. absurd (omega arith), r .2)
+returns c = let a = c .before .before .before .before .before .before .before .before .before .before .args in
+    let done = take (64 * a .i) (now (a .table)) in
+    let end = c .before .before .before .before .before .before .before .find .ensures .0 in
+    let row = known-row (a .i) (now (a .text)) (a .at) done (c .before .before .before .before .before .before .before .before .before .before .pre .2) _ end _ (c .before .before .before .before .before .entries-at .ensures) in
+    let r = c .before .before .row-into .ensures in
+    (ap (λ n. n + 1) end, r .0 ∙ ap (λ row. done ++ row) row, r .1)
 
 pub line-into-spec : {M : Type 1} → statement M
 line-into-spec =
     tie.close
     (tie.spec
-    returns
     find-requires
-    sub-row-at
-    part-row-at-start
-    part-row-at-end
-    add-row-at
-    row-at-requires
-    returns-2
+    sub-entries-at
+    part-entries-at-start
+    part-entries-at-end
+    entries-at-requires
     sub-row-into
     part-row-into-start
     part-row-into-end
     row-into-requires
-    add-t19
+    add-result
     same-length
-    returns-3
-    same-length-2
-    returns-4)
+    returns)
