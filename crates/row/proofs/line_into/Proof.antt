@@ -44,7 +44,7 @@ row-into-requires c κs = let a = c .before .before .before .before .before .bef
     let pre = c .before .before .before .before .before .before .before .pre in
     let done = take (64 * a .i) (now (a .table)) in
     let row = known-row (a .i) (now (a .text)) (a .at) done (pre .2) _ (c .before .before .before .before .find .ensures .0) _ (c .before .before .entries-at .ensures) in
-    (pre .0, pre .1, ap small row ∙ rule-small 0 _ _ (line-in-rule (a .i) (now (a .text)) (a .at) done (pre .2)))
+    (omega (arith, pre .0), pre .1, ap small row ∙ rule-small 0 _ _ (line-in-rule (a .i) (now (a .text)) (a .at) done (pre .2)))
 
 add-result : tie.Need-add-result
 add-result c = search needs
