@@ -1,5 +1,5 @@
-/* The store's step and pass written by hand in C, with the same checks, for the benchmark. The same nine bytes on standard
-   input as crates/meter: units, width, 0 for step or 1 for pass, the unit, rounds, count. */
+/* The store's step and pass written by hand in C, with the same checks, for the benchmark. The same ten bytes on standard
+   input as crates/meter: units, width, 0 for step or 1 for pass, the unit, rounds, count, the page. */
 #include <stdint.h>
 #include <stdio.h>
 #include <string.h>
@@ -8,7 +8,7 @@ enum { OK = 1, A = 2, B = 4 };
 enum phase { COLD, READY, WRITING, RECOVERING };
 enum direction { A_TO_B, B_TO_A };
 
-struct plan { uint16_t count; uint16_t widths[8]; };
+struct plan { uint16_t count; uint16_t widths[8]; uint16_t page; };
 
 struct device {
     struct plan plan;
@@ -21,9 +21,12 @@ struct device {
 
 struct answer { struct device device; uint16_t number; };
 
+/* a copy is whole pages */
+static uint32_t copy_of(uint32_t width, uint32_t page) { return (width + page - 1) & -page; }
+
 static size_t base_of(const struct plan *plan, uint16_t unit) {
     size_t sum = 0;
-    for (uint16_t i = 0; i < unit; i++) sum += 1 + 2 * (size_t)plan->widths[i];
+    for (uint16_t i = 0; i < unit; i++) sum += plan->page + 2 * copy_of(plan->widths[i], plan->page);
     return sum;
 }
 
@@ -37,28 +40,29 @@ static void clean_up_from(struct device *d, const uint8_t *image, uint16_t from)
             d->direction = image[at] == A ? B_TO_A : A_TO_B;
             return;
         }
-        at += 1 + 2 * (size_t)d->plan.widths[u];
+        at += d->plan.page + 2 * copy_of(d->plan.widths[u], d->plan.page);
     }
     d->phase = READY;
 }
 
 static void store_cleanup(const struct device *d, uint8_t *unit, size_t w) {
-    size_t n = d->made;
+    size_t n = d->made, a = d->plan.page, b = a + copy_of(w, d->plan.page);
     if (n >= w) unit[0] = OK;
-    else if (d->direction == A_TO_B) unit[1 + w + n] = unit[1 + n];
-    else unit[1 + n] = unit[1 + w + n];
+    else if (d->direction == A_TO_B) unit[b + n] = unit[a + n];
+    else unit[a + n] = unit[b + n];
 }
 
 /* in place: what a pass does; one walk over the widths, no test twice */
 __attribute__((noinline)) uint16_t pass(struct device *d, uint8_t *image, size_t length) {
-    uint32_t count = d->plan.count, u = d->unit, base = 0, total = 0;
+    uint32_t count = d->plan.count, page = d->plan.page, u = d->unit, base = 0, total = 0;
     if (count == 0 || count > 8) return 1;
     for (uint32_t i = 0; i < count; i++) {
         uint32_t w = d->plan.widths[i];
         if (w == 0 || w > 256) return 2;
         if (i == u) base = total;
-        total += 1 + 2 * w;
+        total += page + 2 * copy_of(w, page);
     }
+    if (page != 1 && page != 4 && page != 8 && page != 16) return 17;
     if (length < total) return 3;
     if (d->phase == COLD || d->phase == READY) return 5;
     if (u >= count) return 4;
@@ -66,8 +70,11 @@ __attribute__((noinline)) uint16_t pass(struct device *d, uint8_t *image, size_t
     uint8_t *unit = image + base;
     if (d->phase == WRITING) {
         int last = 0;
-        if (n <= w) { if (n == 0) unit[0] = A; else unit[n] = d->payload[n - 1]; }
-        else if (n <= 2 * w + 1) { if (n == w + 1) unit[0] = B; else unit[n - 1] = d->payload[n - (w + 2)]; }
+        if (n <= w) { if (n == 0) unit[0] = A; else unit[page + n - 1] = d->payload[n - 1]; }
+        else if (n <= 2 * w + 1) {
+            if (n == w + 1) unit[0] = B;
+            else unit[page + copy_of(w, page) + n - (w + 2)] = d->payload[n - (w + 2)];
+        }
         else if (n == 2 * w + 2) { unit[0] = OK; last = 1; }
         else return 4;
         if (d->stores < UINT32_MAX) d->stores++;
@@ -100,14 +107,15 @@ __attribute__((noinline)) static struct device begin(struct device d, uint16_t u
 }
 
 int main(void) {
-    uint8_t asked[9], image[4104] = {0}, payload[256];
-    if (fread(asked, 1, 9, stdin) != 9) return 1;
+    uint8_t asked[10], image[4224] = {0}, payload[256];
+    if (fread(asked, 1, 10, stdin) != 10) return 1;
     memset(payload, 'x', sizeof payload);
     struct device formatted = {0};
     uint16_t width = asked[1] | asked[2] << 8, unit = asked[4];
     uint16_t rounds = asked[5] | asked[6] << 8, count = asked[7] | asked[8] << 8;
     formatted.plan.count = asked[0];
     for (int i = 0; i < 8; i++) formatted.plan.widths[i] = width;
+    formatted.plan.page = asked[9];
     formatted.phase = READY;
     for (uint16_t i = 0; i < asked[0]; i++) image[base_of(&formatted.plan, i)] = OK;
     for (uint16_t round = 0; round < rounds; round++) {
@@ -121,7 +129,7 @@ int main(void) {
             }
         }
     }
-    fwrite(image + base_of(&formatted.plan, unit) + 1, 1, width, stdout);
+    fwrite(image + base_of(&formatted.plan, unit) + formatted.plan.page, 1, width, stdout);
     puts("");
     return 0;
 }

@@ -7,20 +7,20 @@ ROUNDS = 40
 LIBRARY = "marker layout lookup choice mirror search format refusal advance store console brake".split()
 
 
-def instructions(program, units, width, mode, unit, count):
+def instructions(program, units, width, mode, unit, count, page=1):
     """All instructions of one run, as callgrind counts them."""
-    asked = bytes([units, width % 256, width // 256, mode, unit, ROUNDS, 0, count % 256, count // 256])
+    asked = bytes([units, width % 256, width // 256, mode, unit, ROUNDS, 0, count % 256, count // 256, page])
     run = subprocess.run(
         ["valgrind", "--tool=callgrind", "--callgrind-out-file=/dev/null", program],
         input=asked, capture_output=True, check=True)
     return int(re.search(rb"Collected : (\d+)", run.stderr).group(1))
 
 
-def each(program, units, width, mode):
+def each(program, units, width, mode, page=1):
     """Instructions of one call in a loop: a whole write's calls in each round, less the same rounds with none."""
     stores = 2 * width + 3
-    whole = instructions(program, units, width, mode, units - 1, stores)
-    none = instructions(program, units, width, mode, units - 1, 0)
+    whole = instructions(program, units, width, mode, units - 1, stores, page)
+    none = instructions(program, units, width, mode, units - 1, 0, page)
     return (whole - none) / (ROUNDS * stores)
 
 
@@ -52,6 +52,10 @@ def main():
         for width in (1, 16, 256):
             row = [each(program, units, width, mode) for mode in (0, 1) for program in (meter, baseline)]
             print(f"units {units}, width {width:3}        {row[0]:7.1f} {row[1]:6.1f} {row[0] / row[1]:7.2f} {row[2]:8.1f} {row[3]:6.1f} {row[2] / row[3]:7.2f}")
+    print("\nwith pages of 16 bytes, width 16")
+    for units in (1, 8):
+        row = [each(program, units, 16, mode, 16) for mode in (0, 1) for program in (meter, baseline)]
+        print(f"units {units}                   {row[0]:7.1f} {row[1]:6.1f} {row[0] / row[1]:7.2f} {row[2]:8.1f} {row[3]:6.1f} {row[2] / row[3]:7.2f}")
     print("\ninstructions of one drive")
     for mode, name in ((2, "drive"), (3, "drive over a table")):
         print(f"  {name:24} {drive(meter, mode):.1f}")

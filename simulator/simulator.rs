@@ -1,9 +1,10 @@
 //! A simulator of the console save store's bench program.
 //!
-//! Written from the scope document alone, so that its output can be held
-//! against that of the bench program: for every script the two must agree to
-//! the byte. It reads a script from standard input and plays it to standard
-//! output. Build: `rustc --edition 2021 -O -o simulator simulator.rs`
+//! Written from the scope document and the customers' tickets alone, so that
+//! its output can be held against that of the bench program: for every script
+//! the two must agree to the byte. It reads a script from standard input and
+//! plays it to standard output.
+//! Build: `rustc --edition 2021 -O -o simulator simulator.rs`
 //!
 //! With the argument `looks` a script may also ask for what no bench script
 //! reaches: the brake drive, read and inspect. With `--selftest` it tries
@@ -29,6 +30,8 @@ enum Refusal {
     Level = 9,
     Rate = 10,
     ForeignMarker = 14,
+    PageSize = 17,
+    CutLength = 18,
 }
 
 type Answer = Result<(), Refusal>;
@@ -40,8 +43,9 @@ fn number(answer: Answer) -> u8 {
     }
 }
 
-/// Refuses when the condition holds. Each call lists its refusals in rising
-/// order, so that the first one met is the lowest that applies.
+/// Refuses when the condition holds. Each call lists its refusals in the order
+/// in which they are tested, so that the first one met is given: 1 to 10 in
+/// rising order, 14 after 5, 17 after 2 and 18 after 4.
 fn refuse_if(condition: bool, refusal: Refusal) -> Answer {
     if condition {
         Err(refusal)
@@ -66,56 +70,82 @@ const FIRST_FOREIGN: u8 = 8;
 const MAX_UNITS: usize = 8;
 const MAX_WIDTH: usize = 256;
 
+/// "A plan gains a page size p: 1, 4, 8 or 16."
+const PAGE_SIZES: [usize; 4] = [1, 4, 8, 16];
+
+/// "No page means p = 1."
+const NO_PAGE: u16 = 1;
+
 #[derive(Clone, Copy)]
 struct Plan {
     /// As the script gave it, so it may be refused as above 8.
     count: usize,
     /// Those past the count are not looked at.
     widths: [u16; MAX_UNITS],
+    /// As the script gave it, so it may be refused, and may be 0 until then.
+    page: usize,
 }
 
 impl Plan {
     /// The first eight script widths are the plan's; all of them count.
-    fn from_script(script_widths: &[u16]) -> Plan {
+    fn from_script(script_widths: &[u16], page: u16) -> Plan {
         let mut widths = [0; MAX_UNITS];
         for (width, &given) in widths.iter_mut().zip(script_widths) {
             *width = given;
         }
-        Plan { count: script_widths.len(), widths }
+        Plan { count: script_widths.len(), widths, page: usize::from(page) }
     }
 
+    /// "17 for another page size, tested after 2".
     fn check(&self) -> Answer {
         refuse_if(self.count == 0 || self.count > MAX_UNITS, Refusal::UnitCount)?;
         let sound = |&w: &u16| (1..=MAX_WIDTH).contains(&usize::from(w));
-        refuse_if(!self.widths[..self.count].iter().all(sound), Refusal::UnitWidth)
+        refuse_if(!self.widths[..self.count].iter().all(sound), Refusal::UnitWidth)?;
+        refuse_if(!PAGE_SIZES.contains(&self.page), Refusal::PageSize)
     }
 
     fn width(&self, unit: usize) -> usize {
         usize::from(self.widths[unit])
     }
 
+    /// What a copy takes of the image, its filler with it: "each copy is
+    /// rounded up to whole pages".
+    fn copy_length(&self, unit: usize) -> usize {
+        self.width(unit).div_ceil(self.page) * self.page
+    }
+
     /// Length of the first `units` units together. A unit is its marker,
-    /// copy A and copy B.
+    /// copy A and copy B, and "a marker takes a page of its own".
     fn length(&self, units: usize) -> usize {
-        (0..units).map(|unit| 1 + 2 * self.width(unit)).sum()
+        (0..units).map(|unit| self.page + 2 * self.copy_length(unit)).sum()
     }
 
     fn image_length(&self) -> usize {
         self.length(self.count)
     }
 
+    /// The marker is in its page's "first byte"; the others are filler.
     fn marker_place(&self, unit: usize) -> usize {
         self.length(unit)
     }
 
+    /// Copy A without its filler.
     fn copy_a(&self, unit: usize) -> Range<usize> {
-        let start = self.marker_place(unit) + 1;
+        let start = self.marker_place(unit) + self.page;
         start..start + self.width(unit)
     }
 
+    /// Copy B without its filler.
     fn copy_b(&self, unit: usize) -> Range<usize> {
-        let start = self.copy_a(unit).end;
+        let start = self.copy_a(unit).start + self.copy_length(unit);
         start..start + self.width(unit)
+    }
+
+    /// "The page around the byte" at this place. Every unit takes whole pages,
+    /// so pages are counted from image byte 0.
+    fn page_around(&self, place: usize) -> Range<usize> {
+        let start = place / self.page * self.page;
+        start..start + self.page
     }
 }
 
@@ -178,11 +208,18 @@ impl Store {
         image[self.place] = self.byte;
     }
 
-    /// A torn data byte is m. A torn marker takes the bits that m has from
-    /// the new code and keeps the others.
-    fn tear(&self, image: &mut [u8], m: u8) {
+    /// Tears the whole page, with a given byte for each of its bytes: "data and
+    /// filler become the given byte, a torn marker keeps the bit rule". So data
+    /// stored before in that page is torn too, and a marker, the first of its
+    /// page, takes the bits that the first given byte has from the new code and
+    /// keeps the others.
+    fn tear(&self, image: &mut [u8], page: Range<usize>, given: &[u8]) {
         let old = image[self.place];
-        image[self.place] = if self.is_marker { (self.byte & m) | (old & !m) } else { m };
+        image[page].copy_from_slice(given);
+        if self.is_marker {
+            let m = given[0];
+            image[self.place] = (self.byte & m) | (old & !m);
+        }
     }
 }
 
@@ -195,7 +232,8 @@ struct Device {
 }
 
 impl Device {
-    /// Refusals 1 to 4, which every call on a device and an image begins with.
+    /// Refusals 1, 2, 17, 3 and 4, in this order, which every call on a device
+    /// and an image begins with.
     fn check(&self, image: &[u8]) -> Answer {
         self.plan.check()?;
         refuse_if(image.len() < self.plan.image_length(), Refusal::ShortImage)?;
@@ -295,6 +333,7 @@ fn start(plan: Plan) -> Result<Device, Refusal> {
     Ok(Device { plan, payload: [0; MAX_WIDTH], phase: Phase::Cold })
 }
 
+/// "Format sets the filler to zero", with all else but the markers.
 fn format(device: &mut Device, image: &mut [u8]) -> Answer {
     device.check(image)?;
     refuse_if(!matches!(device.phase, Phase::Cold), Refusal::WrongPhase)?;
@@ -338,10 +377,13 @@ fn wake(device: &mut Device, image: &[u8]) -> Answer {
     Ok(())
 }
 
-fn cut(device: &mut Device, image: &mut [u8], m: u8) -> Answer {
+/// "Cut now takes p bytes, one for each byte of the torn page"; "18 for a cut
+/// of other than p bytes, tested after 4", so also where nothing is torn.
+fn cut(device: &mut Device, image: &mut [u8], given: &[u8]) -> Answer {
     device.check(image)?;
+    refuse_if(given.len() != device.plan.page, Refusal::CutLength)?;
     if let Some(store) = device.next_store(image) {
-        store.tear(image, m);
+        store.tear(image, device.plan.page_around(store.place), given);
     }
     device.payload.fill(0);
     device.phase = Phase::Cold;
@@ -351,7 +393,7 @@ fn cut(device: &mut Device, image: &mut [u8], m: u8) -> Answer {
 // ------------------------------------------------------------------- looks
 // Calls that only look: they change neither the device nor the image.
 
-/// Copy A of the unit, as the image has it.
+/// Copy A of the unit, as the image has it, without filler.
 fn read<'a>(device: &Device, image: &'a [u8], unit: usize) -> Result<&'a [u8], Refusal> {
     device.check(image)?;
     refuse_if(!matches!(device.phase, Phase::Ready), Refusal::WrongPhase)?;
@@ -384,13 +426,14 @@ fn drive(level: u16, rate: u16) -> Result<u16, Refusal> {
 
 const MAX_SCRIPT_WIDTHS: usize = 16;
 const MAX_SCRIPT_BYTES: usize = 256;
+const MAX_CUT_BYTES: usize = 16;
 
 /// The forms of every line after the first. The plan is not among them: it
 /// must be the first line and no other, so anywhere else it is a bad line.
 enum Form {
     Write { unit: u16, payload: Vec<u8> },
     Step { times: u16 },
-    Cut { m: u8 },
+    Cut { given: Vec<u8> },
     Wake,
     Show,
     Look(Look),
@@ -475,13 +518,19 @@ fn hex_digit(digit: u8) -> Option<u8> {
     }
 }
 
-/// Reads the first line, without its LF; None if it is not a plan.
+/// Reads the first line, without its LF; None if it is not a plan. The page
+/// is "a number like W", so other sizes than the four are read and refused.
 fn parse_plan(line: &[u8]) -> Option<Plan> {
     let mut line = Line { rest: line };
     line.text(b"(plan ")?;
     let widths = line.list(MAX_SCRIPT_WIDTHS, Line::decimal)?;
+    let mut page = NO_PAGE;
+    if line.text(b" (page ").is_some() {
+        page = line.decimal()?;
+        line.text(b")")?;
+    }
     line.close()?;
-    Some(Plan::from_script(&widths))
+    Some(Plan::from_script(&widths, page))
 }
 
 /// Reads any later line, without its LF; None if it is not one of the forms
@@ -500,7 +549,7 @@ fn parse_bench_form(line: &[u8]) -> Option<Form> {
     } else if line.text(b"(wake").is_some() {
         Form::Wake
     } else if line.text(b"(cut ").is_some() {
-        Form::Cut { m: line.hex_byte()? }
+        Form::Cut { given: cut_bytes(&mut line)? }
     } else if line.text(b"(step ").is_some() {
         Form::Step { times: line.decimal().filter(|&times| times > 0)? }
     } else {
@@ -513,6 +562,16 @@ fn parse_bench_form(line: &[u8]) -> Option<Form> {
     Some(form)
 }
 
+/// `(HH ..)` "with 0 to 16 bytes", or HH alone, "a cut of one byte".
+fn cut_bytes(line: &mut Line) -> Option<Vec<u8>> {
+    if line.rest.starts_with(b"(") {
+        line.list(MAX_CUT_BYTES, Line::hex_byte)
+    } else {
+        Some(vec![line.hex_byte()?])
+    }
+}
+
+/// The place of a set may be any byte of the image, filler too.
 fn parse_look(line: &[u8], image_length: usize) -> Option<Look> {
     let mut line = Line { rest: line };
     let look = if line.text(b"(drives").is_some() {
@@ -606,6 +665,7 @@ impl<W: Write> Printer<W> {
         self.line_done()
     }
 
+    /// A unit's line of show, which "omits filler".
     fn unit(&mut self, plan: &Plan, image: &[u8], unit: usize) -> io::Result<()> {
         self.text(b"(unit ");
         self.text(&[b'0' + unit as u8]); // units are 0 to 7
@@ -660,8 +720,9 @@ fn play<W: Write>(script: &[u8], mode: Mode, printer: &mut Printer<W>) -> io::Re
     Ok(())
 }
 
-/// Start and format, over an image of exactly the units' length. The image is
-/// given other bytes than zeros first, for format to have something to do.
+/// Start and format, over an image of exactly the units' length, with filler.
+/// The image is given other bytes than zeros first, for format to have
+/// something to do.
 fn lay_out(plan: Plan) -> Result<(Device, Vec<u8>), Refusal> {
     let mut device = start(plan)?;
     let mut image = vec![0xff; plan.image_length()];
@@ -681,7 +742,7 @@ fn run<W: Write>(
             ("write", begin(device, image, usize::from(unit), &payload))
         }
         Form::Step { times } => ("step", steps(device, image, times)),
-        Form::Cut { m } => ("cut", cut(device, image, m)),
+        Form::Cut { given } => ("cut", cut(device, image, &given)),
         Form::Wake => ("wake", wake(device, image)),
         Form::Show => {
             for unit in 0..device.plan.count {
@@ -792,26 +853,73 @@ const DRIVE_CASES: [(u16, u16, &str); 20] = [
     (65535, 65535, "drive 9 0"),
 ];
 
-/// Widths, image length, phase, and the lines of inspect and of read of unit
-/// 0. Every image byte is 1. Most of these no script can reach.
-const DEVICE_CASES: [(&[u16], usize, Phase, &str, &str); 15] = [
-    (&[], 99, Phase::Ready, "inspect refused 1", "read 1"),
-    (&[1; 9], 99, Phase::Ready, "inspect refused 1", "read 1"),
-    (&[0; 9], 0, Phase::Cold, "inspect refused 1", "read 1"),
-    (&[2, 0], 99, Phase::Ready, "inspect refused 2", "read 2"),
-    (&[2, 257], 0, Phase::Cold, "inspect refused 2", "read 2"),
+/// Widths, page, image length, phase, and the lines of inspect and of read of
+/// unit 0. Every image byte is 1. Most of these no script can reach.
+const DEVICE_CASES: [(&[u16], u16, usize, Phase, &str, &str); 33] = [
+    (&[], 1, 99, Phase::Ready, "inspect refused 1", "read 1"),
+    (&[1; 9], 1, 99, Phase::Ready, "inspect refused 1", "read 1"),
+    (&[0; 9], 1, 0, Phase::Cold, "inspect refused 1", "read 1"),
+    (&[2, 0], 1, 99, Phase::Ready, "inspect refused 2", "read 2"),
+    (&[2, 257], 1, 0, Phase::Cold, "inspect refused 2", "read 2"),
     // Units of 5 and 3 bytes, so the image has 8.
-    (&[2, 1], 7, Phase::Ready, "inspect refused 3", "read 3"),
-    (&[2, 1], 7, Phase::Writing { unit: 2, made: 0 }, "inspect refused 3", "read 3"),
-    (&[2, 1], 8, Phase::Ready, "inspect none", "read 0 (01 01)"),
-    (&[2, 1], 8, Phase::Cold, "inspect none", "read 5"),
-    (&[2, 1], 8, Phase::Writing { unit: 2, made: 0 }, "inspect refused 4", "read 4"),
+    (&[2, 1], 1, 7, Phase::Ready, "inspect refused 3", "read 3"),
+    (&[2, 1], 1, 7, Phase::Writing { unit: 2, made: 0 }, "inspect refused 3", "read 3"),
+    (&[2, 1], 1, 8, Phase::Ready, "inspect none", "read 0 (01 01)"),
+    (&[2, 1], 1, 8, Phase::Cold, "inspect none", "read 5"),
+    (&[2, 1], 1, 8, Phase::Writing { unit: 2, made: 0 }, "inspect refused 4", "read 4"),
     // 2 × 2 + 3 = 7 stores, 2 + 1 = 3 stores.
-    (&[2, 1], 8, Phase::Writing { unit: 0, made: 6 }, "inspect none", "read 5"),
-    (&[2, 1], 8, Phase::Writing { unit: 0, made: 7 }, "inspect refused 4", "read 4"),
-    (&[2, 1], 8, recovering(2, 0), "inspect refused 4", "read 4"),
-    (&[2, 1], 8, recovering(0, 2), "inspect none", "read 5"),
-    (&[2, 1], 8, recovering(0, 3), "inspect refused 4", "read 4"),
+    (&[2, 1], 1, 8, Phase::Writing { unit: 0, made: 6 }, "inspect none", "read 5"),
+    (&[2, 1], 1, 8, Phase::Writing { unit: 0, made: 7 }, "inspect refused 4", "read 4"),
+    (&[2, 1], 1, 8, recovering(2, 0), "inspect refused 4", "read 4"),
+    (&[2, 1], 1, 8, recovering(0, 2), "inspect none", "read 5"),
+    (&[2, 1], 1, 8, recovering(0, 3), "inspect refused 4", "read 4"),
+    // Another page size: 1 and 2 before 17, 17 before 3 and 4.
+    (&[], 0, 99, Phase::Ready, "inspect refused 1", "read 1"),
+    (&[1; 9], 3, 0, Phase::Cold, "inspect refused 1", "read 1"),
+    (&[2, 0], 2, 99, Phase::Ready, "inspect refused 2", "read 2"),
+    (&[2, 1], 0, 99, Phase::Ready, "inspect refused 17", "read 17"),
+    (&[2, 1], 5, 0, Phase::Cold, "inspect refused 17", "read 17"),
+    (&[2, 1], 65535, 0, Phase::Writing { unit: 2, made: 0 }, "inspect refused 17", "read 17"),
+    (&[2, 1], 32, 99, recovering(0, 3), "inspect refused 17", "read 17"),
+    // Pages of 4: two units of 4 + 4 + 4 bytes.
+    (&[2, 1], 4, 23, Phase::Ready, "inspect refused 3", "read 3"),
+    (&[2, 1], 4, 24, Phase::Ready, "inspect none", "read 0 (01 01)"),
+    // As many stores as without pages.
+    (&[2, 1], 4, 24, Phase::Writing { unit: 0, made: 6 }, "inspect none", "read 5"),
+    (&[2, 1], 4, 24, Phase::Writing { unit: 0, made: 7 }, "inspect refused 4", "read 4"),
+    (&[2, 1], 4, 24, recovering(0, 2), "inspect none", "read 5"),
+    (&[2, 1], 4, 24, recovering(0, 3), "inspect refused 4", "read 4"),
+    // Pages of 8: units of 8 + 8 + 8 and of 8 + 16 + 16 bytes.
+    (&[8, 9], 8, 63, Phase::Ready, "inspect refused 3", "read 3"),
+    (&[8, 9], 8, 64, Phase::Ready, "inspect none", "read 0 (01 01 01 01 01 01 01 01)"),
+    // Pages of 16: units of 16 + 16 + 16 and of 16 + 32 + 32 bytes.
+    (&[1, 17], 16, 127, Phase::Ready, "inspect refused 3", "read 3"),
+    (&[1, 17], 16, 128, Phase::Ready, "inspect none", "read 0 (01)"),
+    (&[1, 17], 16, 128, Phase::Cold, "inspect none", "read 5"),
+];
+
+/// Widths, page, image length, phase, how many bytes cut is given, and its
+/// answer number. Every image byte is 1.
+const CUT_CASES: [(&[u16], u16, usize, Phase, usize, u8); 19] = [
+    (&[], 3, 0, Phase::Writing { unit: 2, made: 0 }, 0, 1),
+    (&[2, 257], 3, 0, Phase::Writing { unit: 2, made: 0 }, 0, 2),
+    (&[2, 1], 3, 0, Phase::Writing { unit: 2, made: 0 }, 3, 17),
+    (&[2, 1], 4, 23, Phase::Writing { unit: 2, made: 0 }, 0, 3),
+    (&[2, 1], 4, 24, Phase::Writing { unit: 2, made: 0 }, 0, 4),
+    (&[2, 1], 4, 24, Phase::Writing { unit: 0, made: 7 }, 1, 4),
+    (&[2, 1], 4, 24, recovering(0, 3), 5, 4),
+    (&[2, 1], 4, 24, Phase::Writing { unit: 0, made: 6 }, 0, 18),
+    (&[2, 1], 4, 24, recovering(0, 2), 3, 18),
+    (&[2, 1], 4, 24, Phase::Cold, 5, 18),
+    (&[2, 1], 4, 24, Phase::Ready, 1, 18),
+    (&[2, 1], 4, 24, Phase::Writing { unit: 0, made: 6 }, 4, 0),
+    (&[2, 1], 4, 24, recovering(0, 2), 4, 0),
+    (&[2, 1], 4, 24, Phase::Cold, 4, 0),
+    (&[2, 1], 4, 24, Phase::Ready, 4, 0),
+    (&[2, 1], 1, 8, Phase::Ready, 4, 18),
+    (&[2, 1], 1, 8, Phase::Ready, 1, 0),
+    (&[1], 16, 48, Phase::Ready, 15, 18),
+    (&[1], 16, 48, Phase::Ready, 16, 0),
 ];
 
 const fn recovering(unit: usize, made: usize) -> Phase {
@@ -876,12 +984,252 @@ const LOOK_CASES: [(&str, &str); 12] = [
      "(unit 0 (log 01) (a 00 00) (b 00 00))\n(unit 1 (log 01) (a 00) (b b7))\nbad 4\n"),
 ];
 
+/// A first line and what it prints.
+const PLAN_CASES: [(&str, &str); 44] = [
+    ("(plan (2 1) (page 1))", "plan 0"),
+    ("(plan (2 1) (page 4))", "plan 0"),
+    ("(plan (2 1) (page 8))", "plan 0"),
+    ("(plan (2 1) (page 16))", "plan 0"),
+    ("(plan (256 256 256 256 256 256 256 256) (page 16))", "plan 0"),
+    // Another page size.
+    ("(plan (2 1) (page 0))", "plan 17"),
+    ("(plan (2 1) (page 2))", "plan 17"),
+    ("(plan (2 1) (page 3))", "plan 17"),
+    ("(plan (2 1) (page 5))", "plan 17"),
+    ("(plan (2 1) (page 12))", "plan 17"),
+    ("(plan (2 1) (page 17))", "plan 17"),
+    ("(plan (2 1) (page 32))", "plan 17"),
+    ("(plan (2 1) (page 65535))", "plan 17"),
+    // 1 and 2 are tested before it.
+    ("(plan () (page 4))", "plan 1"),
+    ("(plan () (page 0))", "plan 1"),
+    ("(plan (1 1 1 1 1 1 1 1 1) (page 2))", "plan 1"),
+    ("(plan (0 0 0 0 0 0 0 0 0) (page 2))", "plan 1"),
+    ("(plan (2 0) (page 4))", "plan 2"),
+    ("(plan (2 0) (page 2))", "plan 2"),
+    ("(plan (257) (page 65535))", "plan 2"),
+    // Not a number like W.
+    ("(plan (2 1) (page))", "bad 1"),
+    ("(plan (2 1) (page ))", "bad 1"),
+    ("(plan (2 1) (page 04))", "bad 1"),
+    ("(plan (2 1) (page 00))", "bad 1"),
+    ("(plan (2 1) (page 65536))", "bad 1"),
+    ("(plan (2 1) (page 65540))", "bad 1"),
+    ("(plan (2 1) (page -4))", "bad 1"),
+    ("(plan (2 1) (page 4 4))", "bad 1"),
+    ("(plan (2 1) (page (4)))", "bad 1"),
+    // Not the form.
+    ("(plan (2 1)(page 4))", "bad 1"),
+    ("(plan (2 1)  (page 4))", "bad 1"),
+    ("(plan (2 1) (page  4))", "bad 1"),
+    ("(plan (2 1) (page 4 ))", "bad 1"),
+    ("(plan (2 1) ( page 4))", "bad 1"),
+    ("(plan (2 1) (page 4) )", "bad 1"),
+    ("(plan (2 1) (page 4)) ", "bad 1"),
+    ("(plan (2 1) (page 4)", "bad 1"),
+    ("(plan (2 1)) (page 4)", "bad 1"),
+    ("(plan (2 1) page 4)", "bad 1"),
+    ("(plan (2 1) 4)", "bad 1"),
+    ("(plan (2 1) )", "bad 1"),
+    ("(plan (page 4) (2 1))", "bad 1"),
+    ("(plan (2 1) (page 4) (page 4))", "bad 1"),
+    ("(plan (page 4))", "bad 1"),
+];
+
+/// A plan's first line, the lines after it, and what they print after
+/// `plan 0`.
+const PAGE_CASES: [(&str, &str, &str); 11] = [
+    // C1 to C3 with pages; the filler that the cut sets is not shown.
+    ("(plan (2 1) (page 4))",
+     "(write 0 (0a 0b))\n(step 3)\n(cut (00 d1 d2 d3))\n(show)\n(wake)\n(step 3)\n(show)\n",
+     "write 0\nstep 0\ncut 0\n\
+      (unit 0 (log 02) (a 0a 0b) (b 00 00))\n(unit 1 (log 01) (a 00) (b 00))\nwake 0\nstep 0\n\
+      (unit 0 (log 01) (a 00 00) (b 00 00))\n(unit 1 (log 01) (a 00) (b 00))\n"),
+    ("(plan (2 1) (page 4))",
+     "(write 0 (0a 0b))\n(step 3)\n(cut (02 d1 d2 d3))\n(wake)\n(step 3)\n(show)\n",
+     "write 0\nstep 0\ncut 0\nwake 0\nstep 0\n\
+      (unit 0 (log 01) (a 0a 0b) (b 0a 0b))\n(unit 1 (log 01) (a 00) (b 00))\n"),
+    ("(plan (2 1) (page 4))",
+     "(write 0 (0a 0b))\n(step 4)\n(cut (d0 d1 d2 d3))\n(show)\n(wake)\n(step 3)\n(show)\n",
+     "write 0\nstep 0\ncut 0\n\
+      (unit 0 (log 04) (a 0a 0b) (b d0 d1))\n(unit 1 (log 01) (a 00) (b 00))\nwake 0\nstep 0\n\
+      (unit 0 (log 01) (a 0a 0b) (b 0a 0b))\n(unit 1 (log 01) (a 00) (b 00))\n"),
+    // A list of one byte is that byte alone, with a page of 1 and without.
+    ("(plan (1))", "(write 0 (0a))\n(step 1)\n(cut (77))\n(show)\n",
+     "write 0\nstep 0\ncut 0\n(unit 0 (log 02) (a 77) (b 00))\n"),
+    ("(plan (1) (page 1))", "(write 0 (0a))\n(step 1)\n(cut 77)\n(show)\n",
+     "write 0\nstep 0\ncut 0\n(unit 0 (log 02) (a 77) (b 00))\n"),
+    // Other numbers of bytes, in Ready, Writing, Cold and Recovering; each
+    // phase stays as it was.
+    ("(plan (1))",
+     "(cut ())\n(cut (00 00))\n(write 0 (0a))\n(step 1)\n(cut ())\n(cut (77 77))\n(show)\n\
+      (step 1)\n(cut 02)\n(show)\n(cut ())\n(wake)\n(cut (77 77))\n(step 2)\n(show)\n",
+     "cut 18\ncut 18\nwrite 0\nstep 0\ncut 18\ncut 18\n(unit 0 (log 02) (a 00) (b 00))\n\
+      step 0\ncut 0\n(unit 0 (log 00) (a 0a) (b 00))\ncut 18\nwake 0\ncut 18\nstep 0\n\
+      (unit 0 (log 01) (a 0a) (b 0a))\n"),
+    ("(plan (1) (page 4))",
+     "(cut 00)\n(cut ())\n(cut (00 00 00))\n(cut (00 00 00 00 00))\n(write 0 (0a))\n\
+      (cut ff)\n(show)\n(step 2)\n(cut (ff ff ff))\n(show)\n\
+      (cut (02 00 00 00))\n(show)\n(cut 00)\n(wake)\n(cut (00))\n(step 2)\n(show)\n",
+     "cut 18\ncut 18\ncut 18\ncut 18\nwrite 0\n\
+      cut 18\n(unit 0 (log 01) (a 00) (b 00))\nstep 0\ncut 18\n\
+      (unit 0 (log 02) (a 0a) (b 00))\n\
+      cut 0\n(unit 0 (log 00) (a 0a) (b 00))\ncut 18\nwake 0\ncut 18\nstep 0\n\
+      (unit 0 (log 01) (a 0a) (b 0a))\n"),
+    // In Cold and Ready a cut with p bytes is accepted and tears nothing.
+    ("(plan (1) (page 4))",
+     "(cut (ff ff ff ff))\n(write 0 (0a))\n(cut (ff ff ff ff))\n(show)\n(wake)\n(inspect)\n",
+     "cut 0\nwrite 5\ncut 0\n(unit 0 (log 01) (a 00) (b 00))\nwake 0\ninspect none\n"),
+    // Filler is looked at by no call. Unit 0 of width 5 has its marker at byte
+    // 0, A at 4 to 8, B at 12 to 16; unit 1 has them at 20, 24 and 28; the
+    // image has 32 bytes.
+    ("(plan (5 1) (page 4))",
+     "(set 1 02)\n(set 3 ff)\n(set 9 99)\n(set 11 bb)\n(set 17 aa)\n(set 19 99)\n(set 21 08)\n\
+      (set 25 55)\n(set 31 ff)\n(inspect)\n(read 0)\n(read 1)\n(cut (00 00 00 00))\n(wake)\n\
+      (show)\n(set 32 00)\n",
+     "inspect none\nread 0 (00 00 00 00 00)\nread 0 (00)\ncut 0\nwake 0\n\
+      (unit 0 (log 01) (a 00 00 00 00 00) (b 00 00 00 00 00))\n\
+      (unit 1 (log 01) (a 00) (b 00))\nbad 17\n"),
+    // Where the copies lie.
+    ("(plan (5 1) (page 4))",
+     "(set 4 a0)\n(set 8 a4)\n(set 12 b0)\n(set 16 b4)\n(set 24 a5)\n(set 28 b5)\n(read 0)\n\
+      (read 1)\n(show)\n(set 20 08)\n(inspect)\n(read 1)\n(cut (00 00 00 00))\n(wake)\n",
+     "read 0 (a0 00 00 00 a4)\nread 0 (a5)\n\
+      (unit 0 (log 01) (a a0 00 00 00 a4) (b b0 00 00 00 b4))\n\
+      (unit 1 (log 01) (a a5) (b b5))\ninspect unit 1\nread 8\ncut 0\nwake 14\n"),
+    // A torn marker takes the first given byte's bits, the others go to filler:
+    // 1 to 2 torn with 03 is 2, so this ends old.
+    ("(plan (1) (page 8))",
+     "(write 0 (0a))\n(cut (03 00 00 00 00 00 00 ff))\n(show)\n(wake)\n(step 2)\n(show)\n",
+     "write 0\ncut 0\n(unit 0 (log 02) (a 00) (b 00))\nwake 0\nstep 0\n\
+      (unit 0 (log 01) (a 00) (b 00))\n"),
+];
+
+/// A plan's first line, the lines after it, and the whole image they leave,
+/// page by page.
+const IMAGE_CASES: [(&str, &str, &str); 33] = [
+    // Format: every byte 0 but the markers.
+    ("(plan (2 1))", "", "01 00 00 00 00 01 00 00"),
+    ("(plan (2 1) (page 1))", "", "01 00 00 00 00 01 00 00"),
+    ("(plan (6 1) (page 4))", "",
+     "01000000 00000000 00000000 00000000 00000000 01000000 00000000 00000000"),
+    ("(plan (8 9) (page 8))", "",
+     "0100000000000000 0000000000000000 0000000000000000 0100000000000000 \
+      0000000000000000 0000000000000000 0000000000000000 0000000000000000"),
+    ("(plan (1) (page 16))", "",
+     "01000000000000000000000000000000 00000000000000000000000000000000 \
+      00000000000000000000000000000000"),
+    // A page of 1: the store alone is torn.
+    ("(plan (2) (page 1))", "(write 0 (a0 a1))\n(step 2)\n(cut d0)\n", "02 a0 d0 00 00"),
+    ("(plan (2) (page 1))", "(write 0 (a0 a1))\n(step 6)\n(cut (01))\n", "05 a0 a1 a0 a1"),
+    // Unit 0 of width 6 has its marker in page 0, A in pages 1 and 2, B in 3
+    // and 4. Its write makes 15 stores: the marker, 6 to A, the marker, 6 to B,
+    // the marker. Whole, it leaves all filler as it was.
+    ("(plan (6) (page 4))", "(write 0 (a0 a1 a2 a3 a4 a5))\n(step 15)\n",
+     "01000000 a0a1a2a3 a4a50000 a0a1a2a3 a4a50000"),
+    // Torn markers. 1 to 2 with 02: the 2 is new, the 1 is old.
+    ("(plan (6) (page 4))", "(write 0 (a0 a1 a2 a3 a4 a5))\n(cut (02 d1 d2 d3))\n",
+     "03d1d2d3 00000000 00000000 00000000 00000000"),
+    // 2 to 4 with 06 and with 02.
+    ("(plan (6) (page 4))", "(write 0 (a0 a1 a2 a3 a4 a5))\n(step 7)\n(cut (06 d1 d2 d3))\n",
+     "04d1d2d3 a0a1a2a3 a4a50000 00000000 00000000"),
+    ("(plan (6) (page 4))", "(write 0 (a0 a1 a2 a3 a4 a5))\n(step 7)\n(cut (02 d1 d2 d3))\n",
+     "00d1d2d3 a0a1a2a3 a4a50000 00000000 00000000"),
+    // 4 to 1 with 01.
+    ("(plan (6) (page 4))", "(write 0 (a0 a1 a2 a3 a4 a5))\n(step 14)\n(cut (01 d1 d2 d3))\n",
+     "05d1d2d3 a0a1a2a3 a4a50000 a0a1a2a3 a4a50000"),
+    // Torn data. The first byte of A, then its third: the two stored before
+    // are in the same page and are torn too, and so is the one to come.
+    ("(plan (6) (page 4))", "(write 0 (a0 a1 a2 a3 a4 a5))\n(step 1)\n(cut (d0 d1 d2 d3))\n",
+     "02000000 d0d1d2d3 00000000 00000000 00000000"),
+    ("(plan (6) (page 4))", "(write 0 (a0 a1 a2 a3 a4 a5))\n(step 3)\n(cut (d0 d1 d2 d3))\n",
+     "02000000 d0d1d2d3 00000000 00000000 00000000"),
+    // The page's last byte, then the next page's first: the page before stays.
+    ("(plan (6) (page 4))", "(write 0 (a0 a1 a2 a3 a4 a5))\n(step 4)\n(cut (d0 d1 d2 d3))\n",
+     "02000000 d0d1d2d3 00000000 00000000 00000000"),
+    ("(plan (6) (page 4))", "(write 0 (a0 a1 a2 a3 a4 a5))\n(step 5)\n(cut (d0 d1 d2 d3))\n",
+     "02000000 a0a1a2a3 d0d1d2d3 00000000 00000000"),
+    // A's last byte, in a page with one stored before and two of filler.
+    ("(plan (6) (page 4))", "(write 0 (a0 a1 a2 a3 a4 a5))\n(step 6)\n(cut (d0 d1 d2 d3))\n",
+     "02000000 a0a1a2a3 d0d1d2d3 00000000 00000000"),
+    // The same in B: its third byte and its last.
+    ("(plan (6) (page 4))", "(write 0 (a0 a1 a2 a3 a4 a5))\n(step 10)\n(cut (d0 d1 d2 d3))\n",
+     "04000000 a0a1a2a3 a4a50000 d0d1d2d3 00000000"),
+    ("(plan (6) (page 4))", "(write 0 (a0 a1 a2 a3 a4 a5))\n(step 13)\n(cut (d0 d1 d2 d3))\n",
+     "04000000 a0a1a2a3 a4a50000 a0a1a2a3 d0d1d2d3"),
+    // A refused cut tears nothing, and the write goes on to its end.
+    ("(plan (6) (page 4))", "(write 0 (a0 a1 a2 a3 a4 a5))\n(step 3)\n(cut (d0 d1 d2))\n",
+     "02000000 a0a10000 00000000 00000000 00000000"),
+    ("(plan (6) (page 4))", "(write 0 (a0 a1 a2 a3 a4 a5))\n(step 3)\n(cut d0)\n(step 12)\n",
+     "01000000 a0a1a2a3 a4a50000 a0a1a2a3 a4a50000"),
+    // Repair from B to A. It makes good the data of a torn page, not the filler.
+    ("(plan (6) (page 4))",
+     "(write 0 (a0 a1 a2 a3 a4 a5))\n(step 6)\n(cut (d0 d1 d2 d3))\n(wake)\n(step 7)\n",
+     "01000000 00000000 0000d2d3 00000000 00000000"),
+    // The repair torn at A's second byte and at its last one.
+    ("(plan (6) (page 4))",
+     "(write 0 (a0 a1 a2 a3 a4 a5))\n(step 6)\n(cut (d0 d1 d2 d3))\n\
+      (wake)\n(step 1)\n(cut (e0 e1 e2 e3))\n",
+     "02000000 e0e1e2e3 d0d1d2d3 00000000 00000000"),
+    ("(plan (6) (page 4))",
+     "(write 0 (a0 a1 a2 a3 a4 a5))\n(step 6)\n(cut (d0 d1 d2 d3))\n\
+      (wake)\n(step 5)\n(cut (e0 e1 e2 e3))\n",
+     "02000000 00000000 e0e1e2e3 00000000 00000000"),
+    // The repair torn at its marker: 2 to 1 with 02 is 0.
+    ("(plan (6) (page 4))",
+     "(write 0 (a0 a1 a2 a3 a4 a5))\n(step 6)\n(cut (d0 d1 d2 d3))\n\
+      (wake)\n(step 6)\n(cut (02 e1 e2 e3))\n",
+     "00e1e2e3 00000000 0000d2d3 00000000 00000000"),
+    // Repair from A to B, torn at B's fourth byte, then whole.
+    ("(plan (6) (page 4))",
+     "(write 0 (a0 a1 a2 a3 a4 a5))\n(step 8)\n(cut (d0 d1 d2 d3))\n\
+      (wake)\n(step 3)\n(cut (e0 e1 e2 e3))\n",
+     "04000000 a0a1a2a3 a4a50000 e0e1e2e3 00000000"),
+    ("(plan (6) (page 4))",
+     "(write 0 (a0 a1 a2 a3 a4 a5))\n(step 8)\n(cut (d0 d1 d2 d3))\n\
+      (wake)\n(step 3)\n(cut (e0 e1 e2 e3))\n(wake)\n(step 7)\n",
+     "01000000 a0a1a2a3 a4a50000 a0a1a2a3 a4a50000"),
+    // A cut that tears nothing leaves filler as it is too.
+    ("(plan (1) (page 4))",
+     "(write 0 (a0))\n(cut (00 d1 d2 d3))\n(cut (ff e1 e2 e3))\n(wake)\n(cut (ff e1 e2 e3))\n",
+     "01d1d2d3 00000000 00000000"),
+    // The second unit, whose pages are 5, 6 and 7: its own page alone is torn.
+    ("(plan (6 1) (page 4))", "(write 1 (b0))\n(step 1)\n(cut (d0 d1 d2 d3))\n",
+     "01000000 00000000 00000000 00000000 00000000 02000000 d0d1d2d3 00000000"),
+    // Pages of 8 and 16, first late in a page that is all data or nearly.
+    ("(plan (9) (page 8))",
+     "(write 0 (a0 a1 a2 a3 a4 a5 a6 a7 a8))\n(step 6)\n(cut (d0 d1 d2 d3 d4 d5 d6 d7))\n",
+     "0200000000000000 d0d1d2d3d4d5d6d7 0000000000000000 0000000000000000 0000000000000000"),
+    ("(plan (15) (page 16))",
+     "(write 0 (a0 a1 a2 a3 a4 a5 a6 a7 a8 a9 aa ab ac ad ae))\n(step 15)\n\
+      (cut (d0 d1 d2 d3 d4 d5 d6 d7 d8 d9 da db dc dd de df))\n",
+     "02000000000000000000000000000000 d0d1d2d3d4d5d6d7d8d9dadbdcdddedf \
+      00000000000000000000000000000000"),
+    // The last page of copy A and of copy B.
+    ("(plan (9) (page 8))",
+     "(write 0 (a0 a1 a2 a3 a4 a5 a6 a7 a8))\n(step 9)\n(cut (d0 d1 d2 d3 d4 d5 d6 d7))\n",
+     "0200000000000000 a0a1a2a3a4a5a6a7 d0d1d2d3d4d5d6d7 0000000000000000 0000000000000000"),
+    ("(plan (2) (page 16))",
+     "(write 0 (a0 a1))\n(step 5)\n(cut (d0 d1 d2 d3 d4 d5 d6 d7 d8 d9 da db dc dd de df))\n",
+     "04000000000000000000000000000000 a0a10000000000000000000000000000 \
+      d0d1d2d3d4d5d6d7d8d9dadbdcdddedf"),
+];
+
 /// Lines that are bad in both modes.
-const BAD_LINES: [&str; 18] = [
+const BAD_LINES: [&str; 40] = [
     "(drive 65536 0)", "(drive 1 65536)", "(read 65536)", "(set 8 00)", "(set 0 0)", "(set 0 AB)",
     "(drive 01 0)", "(drive 1)", "(drive 1 2 3)", "(drive  1 2)", "(drives )", "(drives 1)",
     "(read)", "(read 0) ", "(inspect 0)", "(inspect", "(set -1 00)", "(set 0 000)",
+    "(cut)", "(cut )", "(cut 0)", "(cut 000)", "(cut 00 00)", "(cut 00))", "(cut(00))",
+    "(cut  (00))", "(cut ((00)))", "(cut (0))", "(cut (000))", "(cut (0A))", "(cut (00 ))",
+    "(cut ( 00))", "(cut (00  00))", "(cut (0000))", "(cut (00,00))", "(cut (00 00)", "(cut (00) )",
+    "(cut (00) (00))", "(page 4)",
+    "(cut (00 01 02 03 04 05 06 07 08 09 0a 0b 0c 0d 0e 0f 10))", // 17 bytes
 ];
+
+/// Cuts of other than one byte, the most that can be written among them.
+const REFUSED_CUTS: [&str; 3] =
+    ["(cut ())", "(cut (00 01))", "(cut (00 01 02 03 04 05 06 07 08 09 0a 0b 0c 0d 0e 0f))"];
 
 /// Lines that are good in the mode `looks` and bad in the bench program.
 const LOOK_LINES: [&str; 5] =
@@ -895,11 +1243,29 @@ fn played(script: &str, mode: Mode) -> io::Result<String> {
     Ok(String::from_utf8_lossy(&printer.to).into_owned())
 }
 
+/// The whole image that a script leaves, a space between its pages; nothing
+/// if the plan is refused or a line is bad.
+fn image_left(script: &str) -> Option<String> {
+    let mut lines = lines(script.as_bytes());
+    let plan = parse_plan(lines.next()?)?;
+    let (mut device, mut image) = lay_out(plan).ok()?;
+    for line in lines {
+        let form = parse_form(line, Mode::Bench, image.len())?;
+        run(form, &mut device, &mut image, &mut Printer::new(io::sink())).ok()?;
+    }
+    let page_digits = |page: &[u8]| page.iter().map(|byte| format!("{byte:02x}")).collect();
+    let pages: Vec<String> = image.chunks(plan.page).map(page_digits).collect();
+    Some(pages.join(" "))
+}
+
+fn device_of(widths: &[u16], page: u16, phase: Phase) -> Device {
+    Device { plan: Plan::from_script(widths, page), payload: [0; MAX_WIDTH], phase }
+}
+
 /// A device case's lines of inspect and of read of unit 0.
-fn looked(widths: &[u16], image_length: usize, phase: Phase) -> String {
-    let device = Device { plan: Plan::from_script(widths), payload: [0; MAX_WIDTH], phase };
+fn looked(device: &Device, image_length: usize) -> String {
     let image = vec![1; image_length];
-    inspect_line(inspect(&device, &image)) + "\n" + &read_line(read(&device, &image, 0))
+    inspect_line(inspect(device, &image)) + "\n" + &read_line(read(device, &image, 0))
 }
 
 /// Every case: its name, what came out and what should have.
@@ -908,14 +1274,38 @@ fn cases() -> io::Result<Vec<(String, String, String)>> {
     for (level, rate, line) in DRIVE_CASES {
         cases.push((format!("drive {level} {rate}"), drive_line(drive(level, rate)), line.into()));
     }
-    for (i, (widths, length, phase, inspected, read)) in DEVICE_CASES.into_iter().enumerate() {
-        let expected = format!("{inspected}\n{read}");
-        cases.push((format!("device case {i}"), looked(widths, length, phase), expected));
+    for (i, (widths, page, length, phase, inspected, read)) in
+        DEVICE_CASES.into_iter().enumerate()
+    {
+        let got = looked(&device_of(widths, page, phase), length);
+        cases.push((format!("device case {i}"), got, format!("{inspected}\n{read}")));
+    }
+    for (i, (widths, page, length, phase, bytes, answer)) in CUT_CASES.into_iter().enumerate() {
+        let mut device = device_of(widths, page, phase);
+        let got = number(cut(&mut device, &mut vec![1; length], &vec![0; bytes]));
+        cases.push((format!("cut case {i}"), got.to_string(), answer.to_string()));
+    }
+    for (line, printed) in PLAN_CASES {
+        cases.push((line.into(), played(line, Mode::Bench)?, format!("{printed}\n")));
     }
     for (lines, printed) in LOOK_CASES {
         let script = format!("(plan (2 1))\n{lines}");
         let got = played(&script, Mode::Looks)?;
         cases.push((script, got, format!("plan 0\n{printed}")));
+    }
+    for (plan, lines, printed) in PAGE_CASES {
+        let script = format!("{plan}\n{lines}");
+        let got = played(&script, Mode::Looks)?;
+        cases.push((script, got, format!("plan 0\n{printed}")));
+    }
+    for (plan, lines, image) in IMAGE_CASES {
+        let script = format!("{plan}\n{lines}");
+        let got = image_left(&script).unwrap_or_default();
+        cases.push((script, got, image.into()));
+    }
+    for line in REFUSED_CUTS {
+        let got = played(&format!("(plan (2 1))\n{line}\n"), Mode::Bench)?;
+        cases.push((line.into(), got, "plan 0\ncut 18\n".into()));
     }
     for line in BAD_LINES.into_iter().chain(LOOK_LINES) {
         let got = played(&format!("(plan (2 1))\n{line}\n"), Mode::Bench)?;

@@ -1,18 +1,22 @@
 // A step, and steps in a row, on the parts of a device: the store that comes next, the phase after it, and the count.
 ghost use mathlib.Core.Path.{_≡_};
+ghost use Prim.Native.Nat.{_≤_};
 ghost use lib.ListN.{length};
-ghost use Rattle.model.specs.declared.Phase.the-variants.{Writing, Recovering};
-ghost use Rattle.model.specs.Refusals.{stepNumber};
-ghost use Rattle.model.specs.Calls.{viewOf, counted, outcome};
+ghost use Rattle.lookup.specs.Spans.{Spans, Sound};
+ghost use Rattle.model.specs.declared.Phase.the-variants.{Recovering};
+ghost use Rattle.model.specs.Calls.{counted, outcome};
 ghost use Rattle.model.specs.Steps.{steps};
-ghost use Rattle.advance.specs.Advances.{parts, Advances, AdvancesAll};
-use mirror::End;
-use mirror::clean_on;
-use mirror::write_on;
+ghost use Rattle.advance.specs.Advances.{parts, Advances, WriteAdvances, AdvancesAll, unitOf};
+use choice::clean_choice;
+use choice::write_choice;
+use lookup::Span;
+use lookup::span_of;
+use mirror::store_at;
 use model::Direction;
 use model::Phase;
 use model::Plan;
-use refusal::step_number;
+use model::refusals::BAD_JOB;
+use model::refusals::WRONG_PHASE;
 use search::cleanup_from;
 
 // The count of stores holds here.
@@ -35,44 +39,40 @@ pub struct Advanced {
     pub stores: u32,
 }
 
-// A step where there is no store to make: refused, with 1 to 3 or 5.
-fn advance_idle(plan: Plan, phase: Phase, earlier: u32, image: &[u8]) -> Advanced
-    ensures { λ r. ⌜ r ≡ record { number = stepNumber (viewOf plan phase (now (image .entry))); phase = phase; stores = earlier } ⌝ }
+// A step that is refused: not counted, and at the same phase still.
+fn refused(number: u16, phase: Phase, stores: u32) -> Advanced
+    ensures { λ r. ⌜ r ≡ record { number = number; phase = phase; stores = stores } ⌝ }
 {
-    let number = step_number(plan, phase, image);
     Advanced {
         number: number,
         phase: phase,
-        stores: earlier,
+        stores: stores,
     }
 }
 
-// A step of a write. A refused one is not counted.
+// A step of a write, whose unit was looked up.
 fn advance_writing(
-    plan: Plan,
+    span: Span,
     payload: &[u8],
     unit: u16,
     made: u16,
-    before: u32,
+    earlier: u32,
     image: &mut [u8],
 ) -> Advanced
-    requires { ⌜ length (now payload) ≡ 256 ⌝ }
-    ensures { λ r. ⌜ Advances plan (now (payload .entry)) (Writing unit made) before (now (image .entry)) (now (image .exit)) r ⌝ }
+    requires { ⌜ Sound span × (span .end ≤ length (now image)) × (length (now payload) ≡ 256) ⌝ }
+    ensures { λ r. ⌜ WriteAdvances span (now (payload .entry)) unit made earlier (now (image .entry)) (now (image .exit)) r ⌝ }
 {
-    let done = write_on(plan, payload, unit, made, &mut image[..], End::Completed);
-    let number = done.number;
-    let left = done.left;
-    if number != 0 {
-        return Advanced {
-            number: number,
-            phase: Phase::Writing {
-                unit: unit,
-                made: made,
-            },
-            stores: before,
+    let choice = write_choice(span, payload, made);
+    let left = choice.left;
+    if left == 0 {
+        let phase = Phase::Writing {
+            unit: unit,
+            made: made,
         };
+        return refused(BAD_JOB, phase, earlier);
     }
-    let stores = count_one(before);
+    store_at(&mut image[..], span, choice.at, choice.byte);
+    let stores = count_one(earlier);
     if left == 1 {
         return Advanced {
             number: 0,
@@ -91,32 +91,31 @@ fn advance_writing(
     }
 }
 
-// A step of a cleanup.
+// The same of a cleanup. After its last store a unit behind this one may need one too.
 fn advance_cleaning(
     plan: Plan,
+    span: Span,
     unit: u16,
     made: u16,
     direction: Direction,
-    before: u32,
+    earlier: u32,
     image: &mut [u8],
 ) -> Advanced
-    ensures { λ r. ⌜ AdvancesAll plan (Recovering unit made direction) before (now (image .entry)) (now (image .exit)) r ⌝ }
+    requires { ⌜ Spans plan unit (length (now image)) span × (span .number ≡ 0) ⌝ }
+    ensures { λ r. ⌜ AdvancesAll plan (Recovering unit made direction) earlier (now (image .entry)) (now (image .exit)) r ⌝ }
 {
-    let done = clean_on(plan, unit, made, direction, &mut image[..], End::Completed);
-    let number = done.number;
-    let left = done.left;
-    if number != 0 {
-        return Advanced {
-            number: number,
-            phase: Phase::Recovering {
-                unit: unit,
-                made: made,
-                direction: direction,
-            },
-            stores: before,
+    let choice = clean_choice(span, &image[..], made, direction);
+    let left = choice.left;
+    if left == 0 {
+        let phase = Phase::Recovering {
+            unit: unit,
+            made: made,
+            direction: direction,
         };
+        return refused(BAD_JOB, phase, earlier);
     }
-    let stores = count_one(before);
+    store_at(&mut image[..], span, choice.at, choice.byte);
+    let stores = count_one(earlier);
     if left == 1 {
         let next = cleanup_from(plan, &image[..], unit + 1);
         return Advanced {
@@ -136,27 +135,48 @@ fn advance_cleaning(
     }
 }
 
-// A step, on the parts of a device.
-pub fn advance(plan: Plan, payload: &[u8], phase: Phase, before: u32, image: &mut [u8]) -> Advanced
-    requires { ⌜ length (now payload) ≡ 256 ⌝ }
-    ensures { λ r. ⌜ Advances plan (now (payload .entry)) phase before (now (image .entry)) (now (image .exit)) r ⌝ }
+// The unit of a phase; of one that has none, the first.
+fn unit_of(phase: Phase) -> u16
+    ensures { λ r. ⌜ r ≡ unitOf phase ⌝ }
 {
     match phase {
-        Phase::Cold => advance_idle(plan, phase, before, &image[..]),
-        Phase::Ready => advance_idle(plan, phase, before, &image[..]),
+        Phase::Cold => 0,
+        Phase::Ready => 0,
+        Phase::Writing { unit, made: _ } => unit,
+        Phase::Recovering {
+            unit,
+            made: _,
+            direction: _,
+        } => unit,
+    }
+}
+
+// A step, on the parts of a device. The plan is looked at once, whatever the phase.
+pub fn advance(plan: Plan, payload: &[u8], phase: Phase, earlier: u32, image: &mut [u8]) -> Advanced
+    requires { ⌜ length (now payload) ≡ 256 ⌝ }
+    ensures { λ r. ⌜ Advances plan (now (payload .entry)) phase earlier (now (image .entry)) (now (image .exit)) r ⌝ }
+{
+    let span = span_of(plan, unit_of(phase), image.len());
+    let number = span.number;
+    if number != 0 {
+        return refused(number, phase, earlier);
+    }
+    match phase {
+        Phase::Cold => refused(WRONG_PHASE, phase, earlier),
+        Phase::Ready => refused(WRONG_PHASE, phase, earlier),
         Phase::Writing { unit, made } => advance_writing(
-            plan,
+            span,
             payload,
             unit,
             made,
-            before,
+            earlier,
             &mut image[..],
         ),
         Phase::Recovering {
             unit,
             made,
             direction,
-        } => advance_cleaning(plan, unit, made, direction, before, &mut image[..]),
+        } => advance_cleaning(plan, span, unit, made, direction, earlier, &mut image[..]),
     }
 }
 

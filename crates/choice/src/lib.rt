@@ -9,14 +9,14 @@ use marker::Marker;
 use model::Direction;
 
 // The store that comes next in a unit that was looked up: the offset in the unit's span, the byte, and how many stores of the job
-// were left, 2 for more than 1.
+// were left, 2 for more than 1. (With a narrower `left` a step takes 8 instructions more, to take the fields out of one register.)
 pub struct Choice {
     pub at: u32,
     pub byte: u8,
-    pub left: u8,
+    pub left: u32,
 }
 
-fn pick(at: u32, byte: u8, left: u8) -> Choice
+fn pick(at: u32, byte: u8, left: u32) -> Choice
     ensures { λ r. ⌜ r ≡ record { at = at; byte = byte; left = left } ⌝ }
 {
     Choice {

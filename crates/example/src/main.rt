@@ -9,6 +9,7 @@ fn first_save(image: &mut [u8]) -> Device {
     let plan = Plan {
         count: 1,
         widths: [4, 0, 0, 0, 0, 0, 0, 0],
+        page: 1,
     };
     let started = Device::start(plan);
     let formatted = started.device.format(&mut image[..]);
@@ -21,7 +22,7 @@ fn first_save(image: &mut [u8]) -> Device {
 fn second_save(device: Device, image: &mut [u8]) -> Device {
     let begun = device.begin(&image[..], 0, b"gone");
     let halfway = begun.device.steps(&mut image[..], 3);
-    let dead = halfway.device.cut(&mut image[..], 90);
+    let dead = halfway.device.cut(&mut image[..], b"Z");
     let woken = dead.device.wake(&image[..]);
     let repaired = woken.device.steps(&mut image[..], 5);
     repaired.device

@@ -1,6 +1,6 @@
 -- Refusals 3 and 4 behind a plan that is fine, and what a unit that was looked up has.
 use Prim.Native.Nat.{ℕ, zero, suc, _+_, _*_, _<_, _≤_}
-use mathlib.Core.Path.{_≡_, refl, ap, sym, _∙_}
+use mathlib.Core.Path.{_≡_, refl, ap, sym, _∙_, subst}
 use mathlib.Core.List.{List, [], _∷_}
 use mathlib.Core.Bool.{Bool, false, _||_}
 use native.Mathlib.Omega.{arith}
@@ -15,18 +15,24 @@ use Rattle.model.specs.Layout.{copyA, copyB, byte, width, unitLength, offset, b
 use Rattle.model.specs.Calls.{jobOf, viewOf}
 use Rattle.model.specs.Refusals.{SHORT-IMAGE, BAD-JOB, badJob, _when_, first, startNumber}
 use Rattle.model.proofs.Compare.{equal, differ, same}
-use Rattle.model.proofs.LayoutLaws.{base-bound}
-use Rattle.model.proofs.RefusalLaws.{first-skip, first-stop, first-none, first-refused, plan-passed, PlanOk, past, start-says, count-bounds, width-bounds}
-use Rattle.layout.proofs.Laws.{plan-fine}
+use Rattle.model.proofs.LayoutLaws.{copy-room, base-bound}
+use Rattle.model.proofs.RefusalLaws.{first-skip, first-stop, first-none, first-refused, plan-passed, PlanOk, page-some, page-fits, past, start-says, start-fine, count-bounds, width-bounds}
+use Rattle.model.specs.Plans.{PageSize}
+use Rattle.layout.proofs.Laws.{size-bounds, rounded-most}
 use Rattle.lookup.specs.declared.Span.{Span}
 use Rattle.lookup.specs.Spans.{imageRow, Live, spanOf, jobRow, Spans, Sound}
 
 module _ (p : Plan) where
-  -- eight units of 513 bytes are the most
-  pub base-small : PlanOk p → (u : ℕ) → u ≤ p .count → base p u ≤ u * 513
+  -- eight units of 528 bytes are the most: 16 for the marker's page, and 256 a copy
+  pub unit-small : PlanOk p → (u : ℕ) → u < p .count → unitLength p u ≤ 528
+  unit-small ok u h =
+      let size = page-fits p (ok .page) in
+      omega (arith, size-bounds (p .page) size .1, rounded-most (p .page) (width p u) size (width-bounds p ok u h .1))
+
+  pub base-small : PlanOk p → (u : ℕ) → u ≤ p .count → base p u ≤ u * 528
   unfolding base
   base-small ok zero h = omega arith
-  base-small ok (suc u) h = omega (arith, base-small ok u (omega arith), width-bounds p ok u (omega arith) .1)
+  base-small ok (suc u) h = omega (arith, base-small ok u (omega arith), unit-small ok u (omega arith))
 
 -- where plan and image are fine, refusal 4 is left: n is measure's number, b its total, k what is said of the job
 module _ (p : Plan) (phase : Phase) (length n b : ℕ) (e : n ≡ startNumber p) (z : n ≡ 0) (t : b ≡ total p) (l : b ≤ length) where
@@ -98,10 +104,11 @@ module _ (p : Plan) (ok : PlanOk p) (u : ℕ) (h : u < p .count) where
       rw is
       (record {
         narrow = width-bounds p ok u h .1;
-        marker = omega arith;
-        copies = omega arith;
-        ends = omega arith;
-        most = omega (arith, base-small p ok u (omega arith), width-bounds p ok u h .1, count-bounds p ok .1);
+        page = subst PageSize (omega arith) (page-fits p (ok .page));
+        marker = omega (arith, page-some p ok);
+        copies = omega (arith, copy-room p ok u);
+        ends = omega (arith, copy-room p ok u);
+        most = omega (arith, base-small p ok u (omega arith), unit-small p ok u h, count-bounds p ok .1);
       })
 
   pub span-inside : (n : ℕ) (r : Span) → total p ≤ n → r ≡ spanOf p u → r .end ≤ n
@@ -114,7 +121,7 @@ module _ (p : Plan) (ok : PlanOk p) (u : ℕ) (h : u < p .count) where
         | equal e ↦ e
         | differ q ↦
             s .refused q false
-            ∙ plan-passed p _ (sym (plan-fine p (ok .count) (ok .widths))) ∙ first-skip 3 _ _ (le-ltb n (total p) l)
+            ∙ plan-passed p _ (start-fine p ok) ∙ first-skip 3 _ _ (le-ltb n (total p) l)
             ∙ first-skip 4 _ _ (rw (lt-leb (p .count) u h)) ∙ first-none
       ]
 

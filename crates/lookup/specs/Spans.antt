@@ -1,4 +1,4 @@
--- A unit of a plan looked up: what refusals 1 to 4 leave to be asked of it.
+-- A unit of a plan looked up: what refusals 1 to 4 and 17 leave to be asked of it.
 use Prim.Native.Nat.{ℕ, _+_, _<_, _≤_}
 use mathlib.Core.Path.{_≡_}
 use mathlib.Core.List.{List, [], _∷_, _++_}
@@ -12,6 +12,7 @@ use Rattle.model.specs.Layout.{copyA, copyB, byte, width, unitLength, offset, b
 use Rattle.model.specs.Refusals.{SHORT-IMAGE, BAD-JOB, Refusal, _when_, first, planRow, firstFour}
 use Rattle.model.specs.Calls.{jobOf}
 use Rattle.model.proofs.RefusalLaws.{PlanOk}
+use Rattle.model.specs.Plans.{PageSize}
 
 -- where the parts of a unit lie
 abbrev pub spanOf : Plan → ℕ → Span
@@ -25,7 +26,7 @@ spanOf p u =
       number = 0;
     }
 
--- refusals 1 to 4, for an image of n bytes
+-- refusals 1 to 4 and 17, for an image of n bytes
 abbrev pub imageRow : Plan → Phase → ℕ → List Refusal
 imageRow p phase n = firstFour p (ltb n (total p)) (jobOf phase)
 
@@ -47,7 +48,9 @@ pub record Spans (p : Plan) (u n : ℕ) (r : Span) : Type 0 where
 -- what every such span has
 pub record Sound (r : Span) : Type 0 where
   pub narrow : r .width ≤ 256
+  -- the marker's page
+  pub page : PageSize (r .a)
   pub marker : 0 < r .a
   pub copies : r .a + r .width ≤ r .b
   pub ends : r .base + r .b + r .width ≤ r .end
-  pub most : r .end ≤ 4104
+  pub most : r .end ≤ 4224

@@ -6,7 +6,7 @@ ghost use mathlib.Core.List.{[], _∷_};
 ghost use lib.Dec.{leb};
 ghost use Rattle.model.specs.Refusals.{_when_, first, startNumber};
 ghost use Rattle.lookup.specs.Spans.{imageRow, Spans};
-use layout::length_of;
+use layout::copy_length;
 use layout::measure;
 use layout::width_of;
 use model::Phase;
@@ -14,7 +14,7 @@ use model::Plan;
 use model::refusals::BAD_JOB;
 use model::refusals::SHORT_IMAGE;
 
-// 0, or refusal 1 or 2.
+// 0, or the first of refusals 1, 2 and 17.
 pub fn plan_number(plan: Plan) -> u16
     ensures { λ r. ⌜ r ≡ startNumber plan ⌝ }
 {
@@ -22,9 +22,9 @@ pub fn plan_number(plan: Plan) -> u16
     whole.number
 }
 
-// A unit looked up: the lowest of refusals 1 to 3, for an image of `length` bytes, or 4 for a unit that there is not; and if it is 0
-// the unit's width, its first image byte and the byte past its last, and, counted from its first byte, where each copy begins. The
-// marker is the unit's first byte.
+// A unit looked up: the first of the plan's refusals and 3, for an image of `length` bytes, or 4 for a unit that there is not; and if
+// it is 0 the unit's width, its first image byte and the byte past its last, and, counted from its first byte, where each copy begins.
+// The marker is the unit's first byte, and has the page before copy A.
 pub struct Span {
     pub base: u32,
     pub end: u32,
@@ -63,12 +63,14 @@ pub fn span_of(plan: Plan, unit: u16, length: usize) -> Span
         return no_span(BAD_JOB);
     }
     let base = whole.base;
+    let page = whole.page;
     let width = width_of(plan, unit);
+    let copy = copy_length(width, page);
     Span {
         base: base,
-        end: base + length_of(width),
-        a: 1,
-        b: 1 + (width as u32),
+        end: base + page + 2 * copy,
+        a: page,
+        b: page + copy,
         width: width as u32,
         number: 0,
     }

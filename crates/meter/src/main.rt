@@ -1,5 +1,6 @@
 // What the benchmark counts (benchmark/README.md): on a plan of equal widths, rounds of one begin and `count` steps or passes.
-// Standard input has nine bytes: units, width (low byte first), 0 for step or 1 for pass, the unit, rounds and count (low bytes first).
+// Standard input has ten bytes: units, width (low byte first), 0 for step or 1 for pass, the unit, rounds and count (low bytes first),
+// and the page.
 // Or, with 2 for drive or 3 for drive over a lent table: drives at a level (the unit's byte) and each rate below count.
 use brake::drive;
 use brake::drive_over;
@@ -57,11 +58,12 @@ fn rounds_of(
     }
 }
 
-fn play(asked: [u8; 9], image: &mut [u8], payload: &[u8]) {
+fn play(asked: [u8; 10], image: &mut [u8], payload: &[u8]) {
     let width = number_of(asked[1], asked[2]);
     let plan = Plan {
         count: number_of(asked[0], 0),
         widths: [width; 8],
+        page: number_of(asked[9], 0),
     };
     let started = Device::start(plan);
     let formatted = started.device.format(&mut image[..]);
@@ -106,7 +108,7 @@ fn drives_of(table: &[u16], over: bool, level: u16, count: u16) -> u16 {
     mixed
 }
 
-fn drive_all(asked: [u8; 9]) {
+fn drive_all(asked: [u8; 10]) {
     let table = [7u16; 1280];
     let level = number_of(asked[4], 0);
     let count = number_of(asked[7], asked[8]);
@@ -115,16 +117,16 @@ fn drive_all(asked: [u8; 9]) {
 }
 
 fn main() {
-    let mut asked = [0u8; 9];
+    let mut asked = [0u8; 10];
     let got = io::read_full(0, &mut asked);
-    if got != 9 {
+    if got != 10 {
         return;
     }
     if 1 < asked[3] {
         drive_all(asked);
         return;
     }
-    let mut image = [0u8; 4104];
+    let mut image = [0u8; 4224];
     let payload = [120u8; 256];
     play(asked, &mut image, &payload);
 }

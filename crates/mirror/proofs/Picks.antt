@@ -1,119 +1,181 @@
--- What becomes of the store that was picked.
-use Prim.Native.Nat.{ℕ, _+_, _<_}
-use mathlib.Core.Path.{_≡_, refl, ap, sym, _∙_}
-use mathlib.Core.List.{List, [], _∷_, _++_}
+-- A torn page of a unit that was looked up is the model's.
+use Prim.Native.Nat.{ℕ, zero, suc, _+_, _-_, _*_, _/_, _<_, _≤_}
+use mathlib.Core.Path.{_≡_, refl, ap, ap₂, sym, _∙_}
+use mathlib.Core.List.{List, [], _∷_}
 use mathlib.Core.Option.{Option, none, some}
-use mathlib.Core.Bool.{Bool, true, false, cond, _||_}
+use mathlib.Core.Bool.{Bool, false, cond, _||_}
 use native.Mathlib.Omega.{arith}
-use lib.Dec.{eqb, ltb, leb}
-use lib.ListN.{length, getD, set}
-use borrow.Author.Tests.{ne-eqb, le-ltb, lt-leb, le-leb}
+use native.Mathlib.Nat.{div-mul-le-self}
+use lib.Dec.{eqb, leb}
+use lib.ListN.{length, getD, getElem?, take, drop, length-drop}
+use lib.Seq.{sets, take-all}
+use borrow.Author.Tests.{eq-eqb, ne-eqb, leb-false, ltb-false}
 use Rattle.choice.specs.declared.Choice.{Choice}
-use Rattle.mirror.specs.declared.Ended.{Ended}
-use Rattle.choice.specs.Picked.{At, Picked}
-use Rattle.mirror.specs.Ends.{leaves, Stores, Ends}
-use Rattle.choice.proofs.Laws.{span-base, span-width}
-use Rattle.model.specs.declared.Plan.{Plan}
-use Rattle.model.specs.declared.Phase.{Phase}
-use Rattle.model.specs.Layout.{copyA, copyB, Cell, marker, byte, width, offset, base, total, place, get, put}
-use Rattle.model.specs.Marker.{torn, End, completed, tornBy}
-use Rattle.model.specs.Refusals.{SHORT-IMAGE, BAD-JOB, badJob, _when_, first, planRow, deviceRow}
-use Rattle.model.specs.Stores.{Store, store, tornCell, stored}
-use Rattle.model.specs.Calls.{jobOf, viewOf, next}
-use Rattle.model.proofs.Compare.{equal, differ, same}
-use Rattle.model.proofs.RefusalLaws.{first-skip, first-stop, first-none, plan-passed}
+use Rattle.choice.specs.Picked.{At, Picked, Writes, Cleans}
 use Rattle.lookup.specs.declared.Span.{Span}
-use Rattle.lookup.specs.Spans.{Spans}
-use Rattle.layout.proofs.Laws.{plan-fine}
+use Rattle.lookup.specs.Spans.{spanOf, Spans, Sound}
+use Rattle.lookup.proofs.Laws.{looked-up, span-sound, span-inside}
+use Rattle.model.specs.declared.Plan.{Plan}
+use Rattle.model.specs.declared.Direction.{Direction}
+use Rattle.model.specs.declared.Phase.{Phase}
+use Rattle.model.specs.declared.Phase.the-variants.{Writing, Recovering}
+use Rattle.model.specs.Layout.{copyA, copyB, Cell, marker, byte, width, unitLength, offset, base, total, place, pageAt, get, putPage}
+use Rattle.model.specs.Marker.{torn, End, tornBy}
+use Rattle.model.specs.Refusals.{writeTotal, cleanupTotal, badJob, cutNumber}
+use Rattle.model.specs.Stores.{Store, store, writeStores, cleanupStores, pageLeft, stored}
+use Rattle.model.specs.Calls.{jobOf, viewOf, next}
+use Rattle.model.proofs.RefusalLaws.{PlanOk, page-some, false-or, CutPassed, cut-says}
+use Rattle.model.proofs.LayoutLaws.{cell-page, unit-pages}
+use Rattle.model.proofs.PageLaws.{no-page, page-within}
+use Rattle.mirror.specs.Tears.{firstLeft, pageFrom, tornFrom, tornIn}
 
--- ---- a picked store is the model's
-torn-cell : (p : Plan) (u : ℕ) (c : Cell) (old new m : ℕ) → cond (eqb (offset p u c) 0) (torn old new m) m ≡ tornCell m c old new
-torn-cell p u marker old new m = refl
-torn-cell p u (byte copyA i) old new m = rw (ne-eqb (offset p u (byte copyA i)) 0 (omega arith))
-torn-cell p u (byte copyB i) old new m = rw (ne-eqb (offset p u (byte copyB i)) 0 (omega arith))
+-- a list that has a first
+head-on : (xs : List ℕ) → 0 < length xs → getD xs 0 0 ∷ drop 1 xs ≡ xs
+head-on [] h = absurd (omega arith)
+head-on (x ∷ xs) h = refl
 
-cell-ended : (e : End) (p : Plan) (u : ℕ) (image : List ℕ) (c : Cell) (x : ℕ)
-    → set image (place p u c) (leaves e (offset p u c) (getD image (place p u c) 0) x) ≡ stored p image e (some (store u c x))
-unfolding stored put get
-cell-ended completed p u image c x = refl
-cell-ended (tornBy m) p u image c x =
-    ap (λ (y : ℕ). set image (place p u c) y) (torn-cell p u c (getD image (place p u c) 0) x m)
+module _ (p : Plan) (ok : PlanOk p) (u : ℕ) (image page : List ℕ) (full : length page ≡ p .page) where
+  abbrev from : Cell → ℕ
+  from c = base p u + offset p u c / p .page * p .page
 
-at-ended : (e : End) (p : Plan) (u : ℕ) (image : List ℕ) (o : Option Store) (b a x : ℕ) → b ≡ base p u → At p u o a x
-    → set image (b + a) (leaves e a (getD image (b + a) 0) x) ≡ stored p image e o
-at-ended e p u image o b a x is h = rw (is, h .at, h .is) (cell-ended e p u image (h .cell) x)
+  left-cell : (c : Cell) (new : ℕ)
+      → firstLeft (offset p u c) (getD image (from c) 0) new (getD page 0 0) ∷ drop 1 page ≡ pageLeft c (getD image (place p u c) 0) new page
+  left-cell marker new =
+      let z : 0 / p .page * p .page ≡ 0 = omega (arith, div-mul-le-self 0 (p .page)) in
+      ap (λ (q : ℕ). torn (getD image (base p u + q) 0) new (getD page 0 0) ∷ drop 1 page) z
+  left-cell (byte copyA i) new =
+      rw (ne-eqb (offset p u (byte copyA i)) 0 (omega (arith, page-some p ok))) (head-on page (omega (arith, page-some p ok, full)))
+  left-cell (byte copyB i) new =
+      rw (ne-eqb (offset p u (byte copyB i)) 0 (omega (arith, page-some p ok))) (head-on page (omega (arith, page-some p ok, full)))
 
--- ---- a job of unit u, looked up as span: refused, or its store made
-module _ (p : Plan) (u : ℕ) (payload : List ℕ) (phase : Phase) (f : ℕ → ℕ) (made : ℕ) (e : End)
-    (image : List ℕ) (span : Span) (s : Spans p u (length image) span)
+  all-left : (c : Cell) (old new : ℕ) → length (pageLeft c old new page) ≤ p .page
+  all-left marker old new = omega (arith, page-some p ok, full, length-drop 1 page)
+  all-left (byte c i) old new = omega (arith, full)
+
+  torn-cell : (c : Cell) (new : ℕ) → tornFrom (from c) (offset p u c) new page image ≡ stored p image (tornBy page) (some (store u c new))
+  unfolding stored putPage get
+  torn-cell c new =
+      let old : ℕ = getD image (place p u c) 0 in
+      ap (sets image (from c)) (left-cell c new ∙ sym (take-all (p .page) (pageLeft c old new page) (all-left c old new)))
+      ∙ ap (λ (q : ℕ). sets image q (take (p .page) (pageLeft c old new page))) (sym (cell-page p ok u c))
+
+-- ---- A unit that was looked up for a cut that is not refused,
+pub record Fitted (span : Span) (image page : List ℕ) : Type 0 where
+  pub sound : Sound span
+  pub ends : span .end ≤ length image
+  pub size : length page ≡ span .a
+
+-- and the store that was picked in it
+pub record Tearing (p : Plan) (payload : List ℕ) (phase : Phase) (span : Span) (image page : List ℕ) (c : Choice) : Type 0 where
+  pub inside : span .base + pageFrom span (c .at) + span .a ≤ span .end
+  pub torn : (after : List ℕ) → after ≡ tornIn span (c .at) (c .byte) page image
+      → after ≡ stored p image (tornBy page) (next p payload image phase)
+
+module _ (p : Plan) (u : ℕ) (payload : List ℕ) (phase : Phase) (f : ℕ → ℕ) (made : ℕ) (image page : List ℕ)
+    (fine : cutNumber (viewOf p phase image) (length page) ≡ 0) (span : Span) (s : Spans p u (length image) span)
     (row : badJob p (jobOf phase) ≡ (leb (p .count) u || leb (f (width p u)) made)) where
-  refusing : (k : ℕ) → k ≡ first (deviceRow (viewOf p phase image)) → ¬ (k ≡ 0) → (r : Ended) → r ≡ record { number = k; left = 0 }
-      → Ends p payload phase (f (width p u)) made e image image r
-  refusing k is h r er =
-      rw er
-      (record {
-        stores = record { number = is; kept = λ _. refl; image = λ z. absurd (h z) };
-        last = λ z _. absurd (h z);
-        more = λ z _. absurd (h z);
-      })
+  says : CutPassed (viewOf p phase image) (length page)
+  says = cut-says (viewOf p phase image) (length page) fine
 
-  -- by the lookup
-  pub look-refuses : ¬ (span .number ≡ 0) → (r : Ended) → r ≡ record { number = span .number; left = 0 }
-      → Ends p payload phase (f (width p u)) made e image image r
-  look-refuses h =
-      refusing (span .number)
-      (s .refused h (leb (f (width p u)) made)
-      ∙ ap (λ (t : Bool). first (planRow p ++ (SHORT-IMAGE when ltb (length image) (total p) ∷ BAD-JOB when t ∷ []))) (sym row)) h
+  ok : PlanOk p
+  ok = says .plan
 
-  module _ (z : span .number ≡ 0) (o : Plan → ℕ → Option Store) (c : Choice) (h : Picked span f made o c) where
-    to-job : (t : Bool) → leb (f (width p u)) made ≡ t → first (deviceRow (viewOf p phase image)) ≡ first (BAD-JOB when t ∷ [])
-    to-job t q =
-        plan-passed p _ (sym (plan-fine p (s .plan z .count) (s .plan z .widths)))
-        ∙ first-skip 3 _ _ (le-ltb (length image) (total p) (s .long z))
-        ∙ ap (λ (b : Bool). first (BAD-JOB when b ∷ [])) (row ∙ rw (lt-leb (p .count) u (s .unit z)) q)
+  long : total p ≤ length image
+  long = ltb-false (length image) (total p) (says .long)
 
-    wide : span .width ≡ width p u
-    wide = span-width p u span (s .is z)
+  unit : u < p .count
+  unit = leb-false (p .count) u (false-or (leb (p .count) u) _ (sym row ∙ says .job) .0)
 
-    early : ¬ (c .left ≡ 0) → made < f (width p u)
-    early q =
-        elim (same (c .left) 1) [
-          | equal l ↦ omega (arith, rw wide at (h .left .last l))
-          | differ l ↦ omega (arith, rw wide at (h .left .more q l))
-        ]
+  is : span ≡ spanOf p u
+  is = s .is (looked-up p ok u unit (length image) span long s)
 
-    -- by the stores made
-    pub late-refuses : c .left ≡ 0 → (r : Ended) → r ≡ record { number = BAD-JOB; left = 0 }
-        → Ends p payload phase (f (width p u)) made e image image r
-    late-refuses q =
-        refusing BAD-JOB
-        (sym (to-job true (le-leb _ made (rw wide at (h .left .none q))) ∙ first-stop 4 true [] refl))
-        (λ n. absurd (omega arith))
+  sound : Sound span
+  sound = span-sound p ok u unit span is
 
-    pub store-ends : ¬ (c .left ≡ 0) → (after : List ℕ) → next p payload image phase ≡ o p u
-        → after ≡ set image (span .base + c .at) (leaves e (c .at) (getD image (span .base + c .at) 0) (c .byte))
-        → Ends p payload phase (f (width p u)) made e image after (record { number = 0; left = c .left })
-    store-ends q after comes is =
-        record {
-          stores = record {
-            number = sym (to-job false (lt-leb _ made (early q)) ∙ first-skip 4 false [] refl ∙ first-none);
-            kept = λ n. absurd (n refl);
-            image = λ _. is
-                ∙ at-ended e p u image (o p u) _ _ _ (span-base p u span (s .is z)) (h .store q p u (s .is z))
-                ∙ ap (stored p image e) (sym comes);
-          };
-          last = λ _ l. rw wide at (h .left .last l);
-          more = λ _ l. rw wide at (h .left .more q l);
-        }
+  ends : span .end ≤ length image
+  ends = span-inside p ok u unit (length image) span long is
+
+  begins : span .base ≡ base p u
+  begins = ap (λ (t : Span). t .base) is
+
+  paged : span .a ≡ p .page
+  paged = omega (arith, ap (λ (t : Span). t .a) is)
+
+  page-long : length page ≡ span .a
+  page-long = says .size ∙ sym paged
+
+  module _ (o : Plan → ℕ → Option Store) (c : Choice) (h : Picked span f made o c) where
+    early : ¬ (c .left ≡ 0)
+    early z =
+        let wide : span .width ≡ width p u = ap (λ (t : Span). t .width) is in
+        absurd (omega (arith, rw wide at (h .left .none z), leb-false (f (width p u)) made (false-or (leb (p .count) u) _ (sym row ∙ says .job) .1)))
+
+    page-inside : span .base + pageFrom span (c .at) + span .a ≤ span .end
+    page-inside =
+        let past : span .end ≡ base p u + unitLength p u = ap (λ (t : Span). t .end) is in
+        let t = page-within (p .page) (page-some p ok) (no-page {page = p .page}) (unit-pages p ok u) (c .at) (omega arith)
+        (omega (arith, h .inside early, begins, past)) .1 in
+        let same : pageFrom span (c .at) ≡ c .at / p .page * p .page = ap (λ (n : ℕ). c .at / n * n) paged in
+        omega (arith, t, begins, past, same, paged)
+
+    page-torn : (after : List ℕ) → next p payload image phase ≡ o p u → after ≡ tornIn span (c .at) (c .byte) page image
+        → after ≡ stored p image (tornBy page) (next p payload image phase)
+    page-torn after comes made-so =
+        let a = h .store early p u is in
+        let there : span .base + pageFrom span (c .at) ≡ base p u + offset p u (a .cell) / p .page * p .page =
+        ap₂ _+_ begins (ap₂ (λ (n at : ℕ). at / n * n) paged (a .at)) in
+        made-so
+        ∙ ap₂ (λ (from at : ℕ). tornFrom from at (c .byte) page image) there (a .at)
+        ∙ torn-cell p ok u image page (says .size) (a .cell) (c .byte)
+        ∙ ap (stored p image (tornBy page)) (sym (comes ∙ a .is))
+
+  -- what the code has to know before it tears, and what it has then done
+  looked : Fitted span image page
+  looked = record { sound = sound; ends = ends; size = page-long }
+
+-- ---- Cold and Ready have no store
+pub none-torn : (p : Plan) (payload : List ℕ) (phase : Phase) (image page : List ℕ) → next p payload image phase ≡ none
+    → image ≡ stored p image (tornBy page) (next p payload image phase)
+unfolding stored
+none-torn p payload phase image page h = ap (stored p image (tornBy page)) (sym h)
 
 -- ---- by the phase's case
-module _ (p : Plan) (payload : List ℕ) (phase : Phase) where
-  -- Cold and Ready have no store
-  pub idle-stores : (e : End) (image : List ℕ) (k : ℕ) → k ≡ first (deviceRow (viewOf p phase image))
-      → next p payload image phase ≡ none → Stores p payload phase e image image k
-  unfolding stored
-  idle-stores e image k is h = record { number = is; kept = λ _. refl; image = λ _. ap (stored p image e) (sym h) }
+module _ (p : Plan) (payload : List ℕ) (phase : Phase) (image page : List ℕ) (fine : cutNumber (viewOf p phase image) (length page) ≡ 0)
+    (u made : ℕ) (span : Span) (s : Spans p u (length image) span) where
+  module _ (e : phase ≡ Writing u made) where
+    writing-row : badJob p (jobOf phase) ≡ (leb (p .count) u || leb (writeTotal (width p u)) made)
+    unfolding badJob
+    writing-row = rw e
 
-  pub by-case : (phase′ : Phase) (e : End) (image after : List ℕ) (k : ℕ) → phase ≡ phase′
-      → Stores p payload phase′ e image after k → Stores p payload phase e image after k
-  by-case phase′ e image after k is h = rw is h
+    writing-next : next p payload image phase ≡ getElem? (writeStores p u payload) made
+    unfolding next
+    writing-next = rw e
+
+    pub write-looked : Fitted span image page
+    write-looked = looked p u payload phase writeTotal made image page fine span s writing-row
+
+    pub write-torn : (c : Choice) → Writes span payload made c → Tearing p payload phase span image page c
+    write-torn c h =
+        record {
+          inside = page-inside p u payload phase writeTotal made image page fine span s writing-row _ c h;
+          torn = λ after. page-torn p u payload phase writeTotal made image page fine span s writing-row _ c h after writing-next;
+        }
+
+  module _ (d : Direction) (e : phase ≡ Recovering u made d) where
+    cleaning-row : badJob p (jobOf phase) ≡ (leb (p .count) u || leb (cleanupTotal (width p u)) made)
+    unfolding badJob
+    cleaning-row = rw e
+
+    cleaning-next : next p payload image phase ≡ getElem? (cleanupStores p image u d) made
+    unfolding next
+    cleaning-next = rw e
+
+    pub clean-looked : Fitted span image page
+    clean-looked = looked p u payload phase cleanupTotal made image page fine span s cleaning-row
+
+    pub clean-torn : (c : Choice) → Cleans span image d made c → Tearing p payload phase span image page c
+    clean-torn c h =
+        record {
+          inside = page-inside p u payload phase cleanupTotal made image page fine span s cleaning-row _ c h;
+          torn = λ after. page-torn p u payload phase cleanupTotal made image page fine span s cleaning-row _ c h after cleaning-next;
+        }

@@ -1,20 +1,21 @@
-// How the next store of a write or a cleanup ends, whole or torn.
+// How a store of a unit that was looked up ends: whole, or torn by a power cut.
 ghost use mathlib.Core.Path.{_≡_};
-ghost use mathlib.Core.Bool.{cond};
+ghost use mathlib.Core.List.{_∷_};
 ghost use Prim.Native.Nat.{_+_, _<_, _≤_};
-ghost use lib.Dec.{eqb};
-ghost use lib.ListN.{length, set, getD};
-ghost use Rattle.model.specs.Marker.{torn};
-ghost use Rattle.mirror.specs.Ends.{ended, leaves, Stores, WriteEnds, CleanupEnds};
+ghost use lib.ListN.{length, set, drop};
+ghost use lib.Seq.{sets};
+ghost use Rattle.model.specs.Marker.{torn, tornBy};
+ghost use Rattle.model.specs.Refusals.{cutNumber};
+ghost use Rattle.model.specs.Stores.{stored};
+ghost use Rattle.model.specs.Calls.{viewOf, next};
+ghost use Rattle.lookup.specs.Spans.{Sound};
+ghost use Rattle.mirror.specs.Tears.{firstLeft, pageFrom, tornIn};
 use choice::clean_choice;
 use choice::write_choice;
 use lookup::Span;
-use lookup::device_number;
 use lookup::span_of;
-use model::Direction;
 use model::Phase;
 use model::Plan;
-use model::refusals::BAD_JOB;
 
 // The storing routine: it is lent the writable span of its own unit, from the marker on, and nothing else.
 fn put(span: &mut [u8], at: usize, byte: u8)
@@ -24,10 +25,14 @@ fn put(span: &mut [u8], at: usize, byte: u8)
     span[at] = byte;
 }
 
-// How a store ends: whole, or torn by a power cut with byte m.
-pub enum End {
-    Completed,
-    Torn(u8),
+// Makes a store in a unit; the storing routine is lent the unit's span alone.
+pub fn store_at(image: &mut [u8], span: Span, at: u32, byte: u8)
+    requires { ⌜ (span .base + at < span .end) × (span .end ≤ length (now image)) ⌝ }
+    ensures { λ _. ⌜ now (image .exit) ≡ set (now (image .entry)) (span .base + at) byte ⌝ }
+{
+    let first = span.base as usize;
+    let past = span.end as usize;
+    put(&mut image[first..past], at as usize, byte);
 }
 
 // Each bit is the new code's where m has a 1, and the old marker's where m has a 0.
@@ -37,128 +42,61 @@ fn torn_marker(old: u8, new: u8, m: u8) -> u8
     (new & m) | (old & !m)
 }
 
-// What a cut with byte m leaves of a store: a torn marker goes bit by bit, a torn data byte is m.
+// What a cut leaves of a page's first byte: a torn marker goes bit by bit, a data byte is m.
 fn torn_byte(at: u32, old: u8, new: u8, m: u8) -> u8
-    ensures { λ r. ⌜ r ≡ cond (eqb at 0) (torn old new m) m ⌝ }
+    ensures { λ r. ⌜ r ≡ firstLeft at old new m ⌝ }
 {
     if at == 0 { torn_marker(old, new, m) } else { m }
 }
 
-// What a store leaves at its place.
-fn left_byte(at: u32, old: u8, new: u8, end: End) -> u8
-    ensures { λ r. ⌜ r ≡ leaves (ended end) at old new ⌝ }
+// The storing routine of a cut: from a place of its own unit's span on, a byte, and then those of the page after its first.
+fn put_page(span: &mut [u8], from: usize, first: u8, page: &[u8])
+    requires { ⌜ (0 < length (now page)) × (from + length (now page) ≤ length (now span)) ⌝ }
+    ensures { λ _. ⌜ now (span .exit) ≡ sets (now (span .entry)) from (first ∷ drop 1 (now (page .entry))) ⌝ }
 {
-    match end {
-        End::Completed => new,
-        End::Torn(m) => torn_byte(at, old, new, m),
+    span[from] = first;
+    let mut i: usize = 1;
+    while i < page.len() {
+        span[from + i] = page[i];
+        i = i + 1;
     }
 }
 
-// Ends the store of a byte at an offset of a unit; the storing routine is lent the unit's span alone.
-fn store_at(image: &mut [u8], span: Span, at: u32, byte: u8, end: End)
-    requires { ⌜ (span .base + at < span .end) × (span .end ≤ length (now image)) ⌝ }
-    ensures { λ _. ⌜ now (image .exit) ≡ set (now (image .entry)) (span .base + at)
-        (leaves (ended end) at (getD (now (image .entry)) (span .base + at) 0) byte) ⌝ }
+// Tears a store in a unit: the page around it. An offset's bits inside a page are taken off by a mask, as in `layout`.
+fn tear_at(image: &mut [u8], span: Span, at: u32, byte: u8, page: &[u8])
+    requires { ⌜ Sound span × (length (now page) ≡ span .a) × (span .base + pageFrom span at + span .a ≤ span .end)
+        × (span .end ≤ length (now image)) ⌝ }
+    ensures { λ _. ⌜ now (image .exit) ≡ tornIn span at byte (now (page .entry)) (now (image .entry)) ⌝ }
 {
     let first = span.base as usize;
     let past = span.end as usize;
-    let place = at as usize;
-    let leaves = left_byte(at, image[first + place], byte, end);
-    put(&mut image[first..past], place, leaves);
+    let from = (at - (at & (span.a - 1))) as usize;
+    let left = torn_byte(at, image[first + from], byte, page[0]);
+    put_page(&mut image[first..past], from, left, page);
 }
 
-// What became of the next store of a job: 0, or the lowest of refusals 1 to 4, in which case none was made; and if it is 0 how many
-// stores were left before it, 2 for more than 1.
-pub struct Ended {
-    pub number: u16,
-    pub left: u8,
-}
-
-fn refused(number: u16) -> Ended
-    ensures { λ r. ⌜ r ≡ record { number = number; left = 0 } ⌝ }
-{
-    Ended {
-        number: number,
-        left: 0,
-    }
-}
-
-// Ends the next store of a write. The unit is looked up once.
-pub fn write_on(
-    plan: Plan,
-    payload: &[u8],
-    unit: u16,
-    made: u16,
-    image: &mut [u8],
-    end: End,
-) -> Ended
-    requires { ⌜ length (now payload) ≡ 256 ⌝ }
-    ensures { λ r. ⌜ WriteEnds plan (now (payload .entry)) unit made (ended end) (now (image .entry)) (now (image .exit)) r ⌝ }
-{
-    let span = span_of(plan, unit, image.len());
-    let number = span.number;
-    if number != 0 {
-        return refused(number);
-    }
-    let choice = write_choice(span, payload, made);
-    let left = choice.left;
-    if left == 0 {
-        return refused(BAD_JOB);
-    }
-    store_at(&mut image[..], span, choice.at, choice.byte, end);
-    Ended {
-        number: 0,
-        left: left,
-    }
-}
-
-// The same of a cleanup.
-pub fn clean_on(
-    plan: Plan,
-    unit: u16,
-    made: u16,
-    direction: Direction,
-    image: &mut [u8],
-    end: End,
-) -> Ended
-    ensures { λ r. ⌜ CleanupEnds plan unit made direction (ended end) (now (image .entry)) (now (image .exit)) r ⌝ }
-{
-    let span = span_of(plan, unit, image.len());
-    let number = span.number;
-    if number != 0 {
-        return refused(number);
-    }
-    let choice = clean_choice(span, &image[..], made, direction);
-    let left = choice.left;
-    if left == 0 {
-        return refused(BAD_JOB);
-    }
-    store_at(&mut image[..], span, choice.at, choice.byte, end);
-    Ended {
-        number: 0,
-        left: left,
-    }
-}
-
-// Ends the next store of a phase, of which Cold and Ready have none: 0, or the lowest of refusals 1 to 4.
-pub fn store_on(plan: Plan, payload: &[u8], phase: Phase, image: &mut [u8], end: End) -> u16
-    requires { ⌜ length (now payload) ≡ 256 ⌝ }
-    ensures { λ r. ⌜ Stores plan (now (payload .entry)) phase (ended end) (now (image .entry)) (now (image .exit)) r ⌝ }
+// Tears the next store of a phase, of which Cold and Ready have none. The cut is one that is not refused.
+pub fn tear_on(plan: Plan, payload: &[u8], phase: Phase, image: &mut [u8], page: &[u8])
+    requires { ⌜ (cutNumber (viewOf plan phase (now image)) (length (now page)) ≡ 0) × (length (now payload) ≡ 256) ⌝ }
+    ensures { λ _. ⌜ now (image .exit) ≡ stored plan (now (image .entry)) (tornBy (now (page .entry)))
+        (next plan (now (payload .entry)) (now (image .entry)) phase) ⌝ }
 {
     match phase {
-        Phase::Cold => device_number(plan, phase, image.len()),
-        Phase::Ready => device_number(plan, phase, image.len()),
+        Phase::Cold => {}
+        Phase::Ready => {}
         Phase::Writing { unit, made } => {
-            let done = write_on(plan, payload, unit, made, &mut image[..], end);
-            done.number
+            let span = span_of(plan, unit, image.len());
+            let choice = write_choice(span, payload, made);
+            tear_at(&mut image[..], span, choice.at, choice.byte, page);
         }
         Phase::Recovering {
             unit,
             made,
             direction,
         } => {
-            let done = clean_on(plan, unit, made, direction, &mut image[..], end);
-            done.number
+            let span = span_of(plan, unit, image.len());
+            let copied = clean_choice(span, &image[..], made, direction);
+            tear_at(&mut image[..], span, copied.at, copied.byte, page);
         }
     }
 }

@@ -1,9 +1,9 @@
 -- The definitions give every row of specs/CasesOfRides.antt: antt computes them.
 use mathlib.Core.Path.{refl}
 use Rattle.model.specs.Marker.{direction, tornBits, torn}
-use Rattle.model.specs.Layout.{base, get, put, copyOf, fresh, formatted}
+use Rattle.model.specs.Layout.{wholePages, base, get, put, putPage, copyOf, fresh, formatted}
 use Rattle.model.specs.Turns.{amount, inBytes, plus}
-use Rattle.model.specs.Refusals.{badCount, badWidths, badJob, first, startNumber, formatNumber, wakeNumber, stepNumber, cutNumber, anyForeign, beginNumber, rideNumber, totalNumber}
+use Rattle.model.specs.Refusals.{badCount, badWidths, badPage, badJob, first, startNumber, formatNumber, wakeNumber, stepNumber, cutNumber, anyForeign, beginNumber, rideNumber, totalNumber}
 use Rattle.model.specs.Stores.{copying, writeStores, cleanupStores, stored}
 use Rattle.model.specs.Calls as calls
 use Rattle.model.specs.Ledger.{opening, markerOf, told, writeMarker, cleanupMarker, saving, accepted, fed}
@@ -20,17 +20,17 @@ unfolding inBytes
 every-bytes = refl
 
 pub every-asking : EveryAsking
-unfolding amount base get copyOf badCount badWidths badJob first rideNumber calls.ride
+unfolding amount wholePages base get copyOf badCount badWidths badPage badJob first rideNumber calls.ride
 every-asking = refl
 
 pub every-ride : EveryRide
-unfolding amount inBytes plus base get copyOf badCount badWidths badJob first rideNumber calls.ride
+unfolding amount inBytes plus wholePages base get copyOf badCount badWidths badPage badJob first rideNumber calls.ride
 every-ride = (refl, refl, refl, refl)
 
 pub every-total : EveryTotal
-unfolding amount base get copyOf badCount badWidths badJob first totalNumber calls.totalOf
+unfolding amount wholePages base get copyOf badCount badWidths badPage badJob first totalNumber calls.totalOf
 every-total = refl
 
 pub every-tally : EveryTally
-unfolding amount inBytes plus direction tornBits torn base get put copyOf fresh formatted badCount badWidths badJob first startNumber formatNumber wakeNumber stepNumber cutNumber anyForeign beginNumber rideNumber copying writeStores cleanupStores stored calls.next calls.imageAfter calls.lowestBad calls.phaseAfter calls.counted calls.start calls.format calls.begin calls.ride calls.step calls.wake calls.cut opening markerOf told writeMarker cleanupMarker saving accepted fed call run passed sum
+unfolding amount inBytes plus direction tornBits torn wholePages base get put putPage copyOf fresh formatted badCount badWidths badPage badJob first startNumber formatNumber wakeNumber stepNumber cutNumber anyForeign beginNumber rideNumber copying writeStores cleanupStores stored calls.next calls.imageAfter calls.lowestBad calls.phaseAfter calls.counted calls.start calls.format calls.begin calls.ride calls.step calls.wake calls.cut opening markerOf told writeMarker cleanupMarker saving accepted fed call run passed sum
 every-tally = refl

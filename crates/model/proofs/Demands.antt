@@ -1,13 +1,14 @@
 -- Demands 1 and 2: every call does what specs/Demands.antt says.
 use Prim.Native.Nat.{ℕ, zero, suc, _+_, _-_, _*_, _/_, _%_, _≤_, _<_}
 use mathlib.Core.Path.{_≡_, refl, ap, sym, _∙_}
-use mathlib.Core.List.{List, []}
+use mathlib.Core.List.{List, [], _∷_}
 use mathlib.Core.Option.{Option, none, some}
 use mathlib.Core.Bool.{Bool, true, false, cond, not, _||_, true≢false}
 use native.Mathlib.Omega.{arith}
+use native.Mathlib.Nat.{div-add-mod', mod-lt, add-mul, div-mul-le-self}
 use lib.Dec.{eqb, ltb, leb}
-use lib.ListN.{length, getD, replicate, length-set, length-append, length-replicate, List·getD-append}
-use lib.Seq.{getD-set-same, getD-set-other, getD-drop, getD-append-add, take-all}
+use lib.ListN.{length, getD, take, drop, replicate, length-set, length-take, length-drop, length-append, length-replicate, List·getD-append}
+use lib.Seq.{sets, length-sets, getD-set-same, getD-set-other, getD-take, getD-drop, getD-append-add, take-all}
 use borrow.Author.Tests.{ne-eqb, lt-ltb, le-ltb, leb-false, ltb-false}
 use Rattle.model.specs.declared.Plan.{Plan}
 use Rattle.model.specs.declared.Direction.{Direction}
@@ -15,19 +16,21 @@ use Rattle.model.specs.declared.Direction.the-variants.{AToB, BToA}
 use Rattle.model.specs.declared.Phase.{Phase}
 use Rattle.model.specs.declared.Phase.the-variants.{Cold, Ready, Writing, Recovering}
 use Rattle.model.specs.Marker.{A, direction, completed, tornBy, tornBits, torn}
-use Rattle.model.specs.Layout.{copyA, copyB, Cell, marker, byte, InUnit, width, base, total, place, get, put, copyOf, formatted}
+use Rattle.model.specs.Layout.{copyA, copyB, Cell, marker, byte, InUnit, width, copyLength, base, total, place, pageAt, get, put, putPage, copyOf, formatted}
 use Rattle.model.specs.Refusals.{writeTotal, cleanupTotal, badJob, isCold, isReady, first, startNumber, formatNumber, beginNumber, stepNumber, wakeNumber, cutNumber, readNumber, inspectNumber, rideNumber, totalNumber}
 use Rattle.model.specs.Turns.{amount, plus}
-use Rattle.model.specs.Stores.{Store, store, source, target, tornCell, stored}
+use Rattle.model.specs.Stores.{Store, store, source, target, pageLeft, stored}
 use Rattle.model.specs.Calls.{Device, Outcome, outcome, view, unlessRefused, startAnswer, jobOf, next, imageAfter, phaseAfter, cleanupOf, cleanupFrom, lowestBad, inspection, counted, mostStores, padded, heldIn, totalUnlessRefused, asFormatted, asBegun, asStepped, asWoken, asCut, partUnlessRefused}
 use Rattle.model.specs.Calls as calls
 use Rattle.model.specs.Drive.{driveNumber, drive, driveUnlessRefused}
-use Rattle.model.specs.Demands.{Lies, at, Does, Starts, OneByte, Formats, Begins, Rides, WriteStore, markerA, toA, markerB, toB, markerOK, CleanupStore, NextStore, ofWrite, ofCleanup, Way, fromA, fromB, Cleans, PhaseAfter, writing, written, cleaning, cleaned, Counts, more, most, Steps, Wakes, bit, Torn, data-byte, mixed, Tears, CutImage, Cuts, Reads, Totals, Inspects, EveryCall, Drives, EveryDrive}
+use Rattle.model.specs.Demands.{Rounded, Lies, at, Does, Starts, OneByte, Formats, Begins, Rides, WriteStore, markerA, toA, markerB, toB, markerOK, CleanupStore, NextStore, ofWrite, ofCleanup, Way, fromA, fromB, Cleans, PhaseAfter, writing, written, cleaning, cleaned, Counts, more, most, Steps, Wakes, bit, Mixed, Torn, ofData, ofMarker, byMarker, Tears, CutImage, Cuts, Reads, Totals, Inspects, EveryCall, Drives, EveryDrive}
 use Rattle.model.specs.Demands as demands
 use Rattle.model.proofs.Compare.{below, above, order, equal, differ, same}
 use Rattle.model.proofs.MarkerLaws.{direction-A, direction-other, bits-more}
-use Rattle.model.proofs.RefusalLaws.{first-past, first-skip, first-stop, first-none, or-false, false-or, PlanOk, Past, past, format-says, begin-says, width-bounds}
-use Rattle.model.proofs.LayoutLaws.{place-bound, copy-length, copy-byte, get-formatted, length-formatted, rest-formatted}
+use Rattle.model.proofs.RefusalLaws.{first-past, first-skip, first-stop, first-none, or-false, false-or, PlanOk, page-some, Past, past, cut-says, format-says, begin-says, width-bounds}
+use Rattle.model.proofs.LayoutLaws.{place-bound, page-inside, marker-page, copy-length, copy-byte, get-formatted, formatted-zero, length-formatted, rest-formatted}
+use Rattle.model.proofs.PageLaws.{pages-room, rounded-pages}
+use Rattle.model.proofs.Runs.{sets-below, sets-above, sets-at}
 use Rattle.model.proofs.TurnLaws.{plus-size, plus-small, plus-amount, amount-first, held-amount, ride-says, ride-begins}
 use Rattle.model.proofs.StoreLaws.{next-A, next-to-A, next-B, next-to-B, next-OK, next-copy, next-settle, write-goes-on, write-ends, cleanup-goes-on, cleanup-ends}
 use Rattle.model.proofs.InspectLaws.{Lowest, lowest-among, Names, names-lowest}
@@ -43,6 +46,10 @@ lies : (p : Plan) → Lies p
 unfolding base
 lies p =
     record {
+      copies = λ some u.
+          let pages = rounded-pages (p .page) (width p u) in
+          let room = pages-room (p .page) (width p u) some in
+          record { pages = pages .many; whole = pages .is; holds = room .0; least = room .1 };
       first = refl;
       next = λ u. refl;
       atMarker = λ u. omega arith;
@@ -61,6 +68,7 @@ started p = go (startNumber p)
           kept = λ z. refl;
           count = λ h. absurd (h refl);
           widths = λ h. absurd (h refl);
+          page = λ h. absurd (h refl);
           phase = refl;
           payload = refl;
           stores = refl;
@@ -70,6 +78,7 @@ started p = go (startNumber p)
           kept = λ z. absurd (omega arith);
           count = λ h. refl;
           widths = λ h. refl;
+          page = λ h. refl;
           phase = refl;
           payload = refl;
           stores = refl;
@@ -110,7 +119,7 @@ formats d image e =
       phase = refl;
       stores = refl;
       markers = λ u l. get-formatted (d .plan) (h .0) image u marker l tt;
-      zeros = λ u l c i k. get-formatted (d .plan) (h .0) image u (byte c i) l k;
+      zeros = formatted-zero (d .plan) (h .0) image;
       others = formatted-rest (d .plan) image (h .0);
       size = length-formatted (d .plan) (h .0) image long;
     }
@@ -231,7 +240,7 @@ module _ (d : Device) (image : List ℕ) where
         ]
 
   -- 4 does not apply, and the phase has a store to make
-  find : (phase : Phase) → d .phase ≡ phase → badJob p (jobOf phase) ≡ false
+  pub find : (phase : Phase) → d .phase ≡ phase → badJob p (jobOf phase) ≡ false
       → isCold (jobOf phase) || isReady (jobOf phase) ≡ false → Found d image
   unfolding badJob
   find Cold now fine busy = absurd (true≢false busy)
@@ -347,39 +356,67 @@ unfolding tornBits twice
 bits-below zero old new m = omega arith
 bits-below (suc n) old new m = bits-more n (twice n) old new m (bits-below n (old / 2) (new / 2) (m / 2))
 
-torn-as : (m old new : ℕ) (c : Cell) → Torn m old new c (tornCell m c old new)
+mixed : (m old new : ℕ) → Mixed m old new (torn old new m)
 unfolding torn twice
-torn-as m old new marker = mixed (tornBits 8 old new m) (bits-below 8 old new m) (λ k h. bit-torn 8 k old new m h)
-torn-as m old new (byte c i) = data-byte c i
+mixed m old new = record { small = bits-below 8 old new m; bits = λ k h. bit-torn 8 k old new m h }
 
-cuts : (d : Device) (image : List ℕ) (m : ℕ) → cutNumber (view d image) ≡ 0
-    → Cuts d image m (outcome 0 (asCut d) (imageAfter (tornBy m) d image))
-unfolding cutNumber imageAfter stored next get
-cuts d image m e =
+-- .. and the page around a cell, byte by byte
+torn-as : (bytes : List ℕ) (old new : ℕ) (c : Cell) (i : ℕ) → Torn bytes old new c i (getD (pageLeft c old new bytes) i 0)
+torn-as bytes old new marker zero = ofMarker _ (mixed (getD bytes 0 0) old new)
+torn-as bytes old new marker (suc i) =
+    let e : getD (drop 1 bytes) i 0 ≡ getD bytes (suc i) 0 =
+    getD-drop 1 bytes i 0 ∙ ap (λ (q : ℕ). getD bytes q 0) {x = 1 + i} {y = suc i} (omega arith) in
+    rw e (byMarker i)
+torn-as bytes old new (byte c j) i = ofData c j i
+
+page-full : (c : Cell) (old new : ℕ) (bytes : List ℕ) → 0 < length bytes → length (pageLeft c old new bytes) ≡ length bytes
+page-full marker old new bytes h = omega (arith, length-drop 1 bytes)
+page-full (byte c i) old new bytes h = refl
+
+tears : (d : Device) (image bytes : List ℕ) → cutNumber (view d image) (length bytes) ≡ 0
+    → isCold (jobOf (d .phase)) || isReady (jobOf (d .phase)) ≡ false → Tears d image bytes (imageAfter (tornBy bytes) d image)
+unfolding imageAfter stored get putPage
+tears d image bytes e busy =
+    let page : ℕ = d .plan .page in
+    let fine = cut-says (view d image) (length bytes) e in
+    let size = fine .size in
+    let some = page-some (d .plan) (fine .plan) in
+    let f = find d image (d .phase) refl (fine .job) busy in
+    let q : ℕ = place (d .plan) (f .unit) (f .cell) in
+    let from : ℕ = pageAt (d .plan) q in
+    let inside = page-inside (d .plan) (fine .plan) (f .unit) (f .cell) (f .there) (f .inside) in
+    let long = ltb-false (length image) (total (d .plan)) (fine .long) in
+    let left : List ℕ = pageLeft (f .cell) (getD image q 0) (f .value) bytes in
+    let full : length (take page left) ≡ page =
+    length-take page left ∙ omega (arith, size, page-full (f .cell) (getD image q 0) (f .value) bytes (omega (arith, size))) in
+    let next : suc (q / page) * page ≡ from + page = omega (arith, add-mul (q / page) 1 page) in
+    record {
+      unit = f .unit;
+      cell = f .cell;
+      value = f .value;
+      store = f .rule;
+      n = q / page;
+      around = (div-mul-le-self q page, omega (arith, next, div-add-mod' q page, mod-lt q some));
+      inside = omega (arith, next, inside);
+      torn = λ i h.
+          rw (f .is, sets-at (take page left) image from i (omega (arith, full)) (omega (arith, full, inside)), getD-take page left i 0 h)
+          (torn-as bytes (getD image q 0) (f .value) (f .cell) i);
+      before = λ i h. rw (f .is) (sets-below (take page left) image from i h);
+      behind = λ i h. rw (f .is) (sets-above (take page left) image from i (omega (arith, full, next)));
+      size = rw (f .is) (length-sets image from (take page left));
+    }
+
+cuts : (d : Device) (image bytes : List ℕ) → cutNumber (view d image) (length bytes) ≡ 0
+    → Cuts d image bytes (outcome 0 (asCut d) (imageAfter (tornBy bytes) d image))
+unfolding imageAfter stored next
+cuts d image bytes e =
     record { plan = refl; payload = refl; phase = refl; stores = refl; image′ = go (d .phase) refl }
   where
-    fine : Past (view d image) []
-    fine = past (view d image) [] e
-
-    tears : isCold (jobOf (d .phase)) || isReady (jobOf (d .phase)) ≡ false → Tears d image m (imageAfter (tornBy m) d image)
-    tears busy =
-        let f = find d image (d .phase) refl (fine .job) busy in
-        record {
-          unit = f .unit;
-          cell = f .cell;
-          value = f .value;
-          left = tornCell m (f .cell) (at (d .plan) image (f .unit) (f .cell)) (f .value);
-          store = f .rule;
-          torn = torn-as m (at (d .plan) image (f .unit) (f .cell)) (f .value) (f .cell);
-          changed = rw (f .is) (one-byte (d .plan) image (f .unit) (f .cell) _ (fine .plan)
-              (ltb-false (length image) (total (d .plan)) (fine .long)) (f .there) (f .inside));
-        }
-
-    go : (phase : Phase) → d .phase ≡ phase → CutImage phase d image m (imageAfter (tornBy m) d image)
+    go : (phase : Phase) → d .phase ≡ phase → CutImage phase d image bytes (imageAfter (tornBy bytes) d image)
     go Cold now = rw now
     go Ready now = rw now
-    go (Writing u made) now = tears (rw now)
-    go (Recovering u made way) now = tears (rw now)
+    go (Writing u made) now = tears d image bytes e (rw now)
+    go (Recovering u made way) now = tears d image bytes e (rw now)
 
 -- ---- Read.
 read-there : (d : Device) (image : List ℕ) (u : ℕ) → readNumber (view d image) u ≡ 0
@@ -444,8 +481,8 @@ every-call d image =
           (outcome 0 (asStepped (phaseAfter (d .plan) stepped (d .phase)) d) stepped) refl (steps d image);
       wake = does (Wakes d image) (wakeNumber (view d image)) d image
           (outcome 0 (asWoken (cleanupFrom (d .plan) image 0) d) image) refl (wakes d image);
-      cut = λ m. does (Cuts d image m) (cutNumber (view d image)) d image
-          (outcome 0 (asCut d) (imageAfter (tornBy m) d image)) refl (cuts d image m);
+      cut = λ bytes. does (Cuts d image bytes) (cutNumber (view d image) (length bytes)) d image
+          (outcome 0 (asCut d) (imageAfter (tornBy bytes) d image)) refl (cuts d image bytes);
       read = reads d image;
       total = totals d image;
       inspect = inspects d image;

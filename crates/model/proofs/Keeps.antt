@@ -67,7 +67,7 @@ module _ (p : Plan) (ok : PlanOk p) (before : List ℕ) (l : Ledger) (o : Outcom
   abbrev ended : End → Outcome
   ended completed =
       outcome 0 (asStepped (phaseAfter (d .plan) (imageAfter completed d image) (d .phase)) d) (imageAfter completed d image)
-  ended (tornBy m) = outcome 0 (asCut d) (imageAfter (tornBy m) d image)
+  ended (tornBy bytes) = outcome 0 (asCut d) (imageAfter (tornBy bytes) d image)
 
   abbrev Kept : End → Type 0
   Kept e = Inv p before (noted p l e) (ended e)
@@ -84,8 +84,8 @@ module _ (p : Plan) (ok : PlanOk p) (before : List ℕ) (l : Ledger) (o : Outcom
         ≡ outcome 0 (asStepped (phaseAfter p (stored p image completed (some s)) phase) d) (stored p image completed (some s))
     step-is = rw (image-is completed, is, inv .plan)
 
-    cut-is : (m : ℕ) → ended (tornBy m) ≡ outcome 0 (asCut d) (stored p image (tornBy m) (some s))
-    cut-is m = rw (image-is (tornBy m))
+    cut-is : (bytes : List ℕ) → ended (tornBy bytes) ≡ outcome 0 (asCut d) (stored p image (tornBy bytes) (some s))
+    cut-is bytes = rw (image-is (tornBy bytes))
 
     by-store : phaseAfter p (stored p image completed (some s)) phase ≡ phased (direction (mk completed)) j
         → ((e : End) → Frame p before (stored p image e (some s)) (sv e) v)
@@ -96,14 +96,14 @@ module _ (p : Plan) (ok : PlanOk p) (before : List ℕ) (l : Ledger) (o : Outcom
     by-store goes fr mark stage safe completed =
         subst₂ (λ (x : Ledger) (y : Outcome). Inv p before x y) (sym (notes completed)) (sym step-is)
         (record { plan = inv .plan; phase = goes; frame = fr completed; mark = mark completed; stage = stage })
-    by-store goes fr mark stage safe (tornBy m) =
-        subst₂ (λ (x : Ledger) (y : Outcome). Inv p before x y) (sym (notes (tornBy m))) (sym (cut-is m))
+    by-store goes fr mark stage safe (tornBy bytes) =
+        subst₂ (λ (x : Ledger) (y : Outcome). Inv p before x y) (sym (notes (tornBy bytes))) (sym (cut-is bytes))
         (record {
           plan = inv .plan;
           phase = refl;
-          frame = fr (tornBy m);
-          mark = mark (tornBy m);
-          stage = off refl (safe (tornBy m));
+          frame = fr (tornBy bytes);
+          mark = mark (tornBy bytes);
+          stage = off refl (safe (tornBy bytes));
         })
 
   phase-is : (j : Job) → l .job ≡ j → d .phase ≡ phased (direction (l .marker)) j
@@ -234,14 +234,14 @@ module _ (p : Plan) (ok : PlanOk p) (before : List ℕ) (l : Ledger) (o : Outcom
       passed e h q z =
           rw (z, saving-same u bs (l .saved)) (once h (rw (direction-other (left e) q) (new e)))
 
-      tore : (m : ℕ) → ¬ (left (tornBy m) ≡ OK) → Same (left (tornBy m)) A → After (tornBy m)
-      tore m h (equal q) =
-          rw (eq-eqb (left (tornBy m)) A q) (once h (rw (direction-A (left (tornBy m)) q) (old (tornBy m))))
-      tore m h (differ q) = passed (tornBy m) h q (rw (ne-eqb (left (tornBy m)) A q))
+      tore : (bytes : List ℕ) → ¬ (left (tornBy bytes) ≡ OK) → Same (left (tornBy bytes)) A → After (tornBy bytes)
+      tore bytes h (equal q) =
+          rw (eq-eqb (left (tornBy bytes)) A q) (once h (rw (direction-A (left (tornBy bytes)) q) (old (tornBy bytes))))
+      tore bytes h (differ q) = passed (tornBy bytes) h q (rw (ne-eqb (left (tornBy bytes)) A q))
 
       decided : (e : End) → After e
       decided completed = passed completed (omega arith) (omega arith) refl
-      decided (tornBy m) = tore m (rw mk (torn-A-to-B m)) (same (left (tornBy m)) A)
+      decided (tornBy bytes) = tore bytes (rw mk (torn-A-to-B (getD bytes 0 0))) (same (left (tornBy bytes)) A)
 
   -- 4: the bytes of copy B
   store-to-B : (t : Task) (bs : List ℕ) (j : ℕ) → j < w → l .job ≡ jobAt t (suc (w + suc j)) → l .marker ≡ B → f ≡ bs
@@ -385,21 +385,21 @@ module _ (p : Plan) (ok : PlanOk p) (before : List ℕ) (l : Ledger) (o : Outcom
       (inv .stage)
 
   -- ---- cut
-  cut-kept : (m : ℕ) → Kept (tornBy m)
+  cut-kept : (bytes : List ℕ) → Kept (tornBy bytes)
   unfolding accepted imageAfter stored next
-  cut-kept m =
-      by-stage (tornBy m)
+  cut-kept bytes =
+      by-stage (tornBy bytes)
       (λ job mk both. idle refusals.ready job refl refl (twice both))
       (λ job safe. idle refusals.cold job refl refl safe)
       (inv .stage)
     where
-      idle : (j : Job) → l .job ≡ j → stored p image (tornBy m) (next p (d .payload) image (phased way j)) ≡ image
-          → ledger.wasCut p l m j ≡ ledger.noted l refusals.cold (l .payload)
-          → Safe p image u (l .marker) f → Kept (tornBy m)
+      idle : (j : Job) → l .job ≡ j → stored p image (tornBy bytes) (next p (d .payload) image (phased way j)) ≡ image
+          → ledger.wasCut p l bytes j ≡ ledger.noted l refusals.cold (l .payload)
+          → Safe p image u (l .marker) f → Kept (tornBy bytes)
       idle j job nothing then-cold safe =
-          let notes : noted p l (tornBy m) ≡ ledger.noted l refusals.cold (l .payload) =
-          ap (ledger.wasCut p l m) job ∙ then-cold in
-          let stays : imageAfter (tornBy m) d image ≡ image = rw (inv .plan, phase-is j job) nothing in
+          let notes : noted p l (tornBy bytes) ≡ ledger.noted l refusals.cold (l .payload) =
+          ap (ledger.wasCut p l bytes) job ∙ then-cold in
+          let stays : imageAfter (tornBy bytes) d image ≡ image = rw (inv .plan, phase-is j job) nothing in
           subst₂ (λ (x : Ledger) (y : List ℕ). Inv p before x (outcome 0 (asCut d) y)) (sym notes) (sym stays)
           (record { plan = inv .plan; phase = refl; frame = frame; mark = inv .mark; stage = off refl safe })
 
@@ -540,7 +540,7 @@ module _ (p : Plan) (ok : PlanOk p) (before : List ℕ) (l : Ledger) (o : Outcom
   keeps (begin v payload) =
       settle _ _ _ _ (begin-alike alike v (length payload)) refl (λ h. begin-kept v payload (begin-says (judged p l) v (length payload) h))
   keeps (ride turns) =
-      settle _ _ _ _ (ride-alike alike ok turns (held-is 0 (count-bounds p ok .0))) refl (ride-kept turns)
+      settle _ _ _ _ (ride-alike alike turns (λ fine long. held-is 0 (count-bounds p ok .0))) refl (ride-kept turns)
   keeps step = settle _ _ _ _ (step-alike alike) refl step-kept
-  keeps (cut m) = settle _ _ _ _ (cut-alike alike) refl (λ h. cut-kept m)
+  keeps (cut bytes) = settle _ _ _ _ (cut-alike alike (length bytes)) refl (λ h. cut-kept bytes)
   keeps wake = settle _ _ _ _ (wake-alike alike) refl (λ h. wake-kept (wake-says (judged p l) h))

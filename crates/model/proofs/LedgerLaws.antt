@@ -5,6 +5,7 @@ use mathlib.Core.List.{List, [], _∷_}
 use mathlib.Core.Bool.{Bool, true, false, cond, not}
 use native.Mathlib.Omega.{arith}
 use lib.Dec.{eqb}
+use lib.ListN.{getD}
 use borrow.Author.Tests.{eq-eqb, ne-eqb}
 use Rattle.model.specs.declared.Plan.{Plan}
 use Rattle.model.specs.Marker.{OK, A, B, End, completed, tornBy, markerLeft}
@@ -21,26 +22,26 @@ at j payload u m saved = record { job = j; payload = payload; unit = u; marker =
 -- what the ledger notes of the next store, completed by a step or torn by a cut
 abbrev pub noted : Plan → Ledger → End → Ledger
 noted p l completed = accepted p l step
-noted p l (tornBy m) = accepted p l (cut m)
+noted p l (tornBy bytes) = accepted p l (cut bytes)
 
 -- the job after a store after which a step goes on with j
 abbrev pub then : End → Job → Job
 then completed j = j
-then (tornBy m) j = cold
+then (tornBy bytes) j = cold
 
 -- whether a write passes at its store w + 2, which leaves x
 abbrev pub decides : End → ℕ → Bool
 decides completed x = true
-decides (tornBy m) x = not (eqb x A)
+decides (tornBy bytes) x = not (eqb x A)
 
 -- and at no other store
 passes-not : (w n : ℕ) (e : End) (x : ℕ) → ¬ (n ≡ w + 2) → passes w n e x ≡ false
 passes-not w n completed x h = ne-eqb n (w + 2) h
-passes-not w n (tornBy m) x h = rw (ne-eqb n (w + 2) h)
+passes-not w n (tornBy bytes) x h = rw (ne-eqb n (w + 2) h)
 
 passes-here : (w n : ℕ) (e : End) (x : ℕ) → n ≡ w + 2 → passes w n e x ≡ decides e x
 passes-here w n completed x h = eq-eqb n (w + 2) h
-passes-here w n (tornBy m) x h = rw (eq-eqb n (w + 2) h)
+passes-here w n (tornBy bytes) x h = rw (eq-eqb n (w + 2) h)
 
 pub own-marker : (l : Ledger) → markerOf l (l .unit) ≡ l .marker
 unfolding markerOf
@@ -85,9 +86,9 @@ module _ (p : Plan) (l : Ledger) (t : Task) (made : ℕ) (x : Write) (is : l .jo
           ≡ wroteTo p l (taskWrite p (l .payload) t) (suc made) completed
           (cond (eqb (suc made) (2 * width p (taskWrite p (l .payload) t .unit) + 3)) (follows p (l .payload) t) (jobAt t (suc made)))
       go (alone v) = refl
-  store-writes (tornBy m) = ap (wasCut p l m) is ∙ go t
+  store-writes (tornBy bytes) = ap (wasCut p l bytes) is ∙ go t
     where
-      go : (t : Task) → wasCut p l m (jobAt t made) ≡ wroteTo p l (taskWrite p (l .payload) t) (suc made) (tornBy m) cold
+      go : (t : Task) → wasCut p l bytes (jobAt t made) ≡ wroteTo p l (taskWrite p (l .payload) t) (suc made) (tornBy bytes) cold
       go (alone v) = refl
 
   step-writes : (j : Job) → onward x ≡ j → (e : End) → noted p l e ≡ wroteTo p l x (suc made) e (then e j)
@@ -149,18 +150,18 @@ module _ (p : Plan) (l : Ledger) (u made : ℕ) (is : l .job ≡ recovering u ma
       → noted p l e ≡ at (then e (recovering u (suc made))) (l .payload) u (markerOf l u) (l .saved)
   unfolding accepted cleanupMarker
   notes-copy h completed = rw (is, ne-eqb (suc made) (width p u + 1) (omega arith))
-  notes-copy h (tornBy m) = rw (is, ne-eqb (suc made) (width p u + 1) (omega arith))
+  notes-copy h (tornBy bytes) = rw (is, ne-eqb (suc made) (width p u + 1) (omega arith))
 
   pub notes-settle : made ≡ width p u → (e : End)
       → noted p l e ≡ at (then e ready) (l .payload) u (markerLeft e (markerOf l u) OK) (l .saved)
   unfolding accepted cleanupMarker
   notes-settle h completed = rw (is, eq-eqb (suc made) (width p u + 1) (omega arith))
-  notes-settle h (tornBy m) = rw (is, eq-eqb (suc made) (width p u + 1) (omega arith))
+  notes-settle h (tornBy bytes) = rw (is, eq-eqb (suc made) (width p u + 1) (omega arith))
 
 -- ---- Ticket 4: the ledger's marker never exceeds 7
 left-small : (e : End) (old code : ℕ) → old ≤ 7 → code ≤ 7 → markerLeft e old code ≤ 7
 left-small completed old code h k = k
-left-small (tornBy m) old code h k = torn-small old code m h k
+left-small (tornBy bytes) old code h k = torn-small old code (getD bytes 0 0) h k
 
 write-small : (w n : ℕ) (e : End) (old : ℕ) → old ≤ 7 → writeMarker w n e old ≤ 7
 unfolding writeMarker
@@ -200,18 +201,18 @@ module _ (p : Plan) (l : Ledger) (h : l .marker ≤ 7) where
   step-small (writing u made) = write-small (width p u) (suc made) completed (markerOf l u) (marker-small u)
   step-small (recovering u made) = cleanup-small (width p u) (suc made) completed (markerOf l u) (marker-small u)
 
-  cut-small : (m : ℕ) (j : Job) → wasCut p l m j .marker ≤ 7
-  cut-small m cold = h
-  cut-small m ready = h
-  cut-small m (writing u made) = write-small (width p u) (suc made) (tornBy m) (markerOf l u) (marker-small u)
-  cut-small m (recovering u made) = cleanup-small (width p u) (suc made) (tornBy m) (markerOf l u) (marker-small u)
+  cut-small : (bytes : List ℕ) (j : Job) → wasCut p l bytes j .marker ≤ 7
+  cut-small bytes cold = h
+  cut-small bytes ready = h
+  cut-small bytes (writing u made) = write-small (width p u) (suc made) (tornBy bytes) (markerOf l u) (marker-small u)
+  cut-small bytes (recovering u made) = cleanup-small (width p u) (suc made) (tornBy bytes) (markerOf l u) (marker-small u)
 
   accepted-small : (c : Call) → accepted p l c .marker ≤ 7
   unfolding accepted
   accepted-small (begin u payload) = h
   accepted-small (ride turns) = h
   accepted-small step = step-small (l .job)
-  accepted-small (cut m) = cut-small m (l .job)
+  accepted-small (cut bytes) = cut-small bytes (l .job)
   accepted-small wake = h
 
   fed-small : (c : Call) → fed p l c .marker ≤ 7

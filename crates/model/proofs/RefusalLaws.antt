@@ -5,12 +5,13 @@ use mathlib.Core.List.{List, [], _∷_, _++_}
 use mathlib.Core.Bool.{Bool, true, false, cond, not, _||_, _&&_, true≢false, false≢true}
 use native.Mathlib.Omega.{arith}
 use lib.Dec.{eqb, ltb, leb}
-use borrow.Author.Tests.{ltb-true, ltb-false, leb-false, eqb-true, eqb-false, eq-eqb, lt-leb, le-leb, not-false}
+use borrow.Author.Tests.{ltb-true, ltb-false, leb-false, eqb-true, eqb-false, eq-eqb, ne-eqb, lt-leb, le-leb, not-false}
 use Rattle.model.specs.declared.Plan.{Plan}
+use Rattle.model.specs.Plans.{PageSize, one, four, eight, sixteen}
 use Rattle.model.specs.Layout.{width}
 use Rattle.model.specs.Marker.{OK}
-use Rattle.model.specs.Refusals.{Job, cold, ready, writing, recovering, isCold, isReady, writeTotal, cleanupTotal, View, badCount, badWidths, badJob, Refusal, _when_, first, planRow, deviceRow, anyForeign, startNumber, formatNumber, wakeNumber, stepNumber, cutNumber, beginNumber, totalNumber}
-use Rattle.model.proofs.Compare.{below, above, order}
+use Rattle.model.specs.Refusals.{Job, cold, ready, writing, recovering, isCold, isReady, writeTotal, cleanupTotal, View, badCount, badWidths, badPage, badJob, Refusal, _when_, first, planRow, deviceRow, anyForeign, startNumber, formatNumber, wakeNumber, stepNumber, cutNumber, inspectNumber, readNumber, beginNumber, totalNumber}
+use Rattle.model.proofs.Compare.{below, above, order, equal, differ, same}
 
 -- ---- the first refusal that holds
 pub first-past : (n : ℕ) (t : Bool) (rest : List Refusal) → first (suc n when t ∷ rest) ≡ 0 → (t ≡ false) × (first rest ≡ 0)
@@ -94,16 +95,19 @@ false-or false y e = (refl, e)
 pub record PlanOk (p : Plan) : Type 0 where
   pub count : badCount p ≡ false
   pub widths : badWidths p (p .count) ≡ false
+  pub page : badPage p ≡ false
 
 pub start-says : (p : Plan) → startNumber p ≡ 0 → PlanOk p
 unfolding startNumber
 start-says p e =
-    let h = first-past 0 (badCount p) _ e in
-    record { count = h .0; widths = first-past 1 (badWidths p (p .count)) [] (h .1) .0 }
+    let h₁ = first-past 0 (badCount p) _ e in
+    let h₂ = first-past 1 (badWidths p (p .count)) _ (h₁ .1) in
+    record { count = h₁ .0; widths = h₂ .0; page = first-past 16 (badPage p) [] (h₂ .1) .0 }
 
 pub start-fine : (p : Plan) → PlanOk p → startNumber p ≡ 0
 unfolding startNumber
-start-fine p ok = first-skip 1 _ _ (ok .count) ∙ first-skip 2 _ [] (ok .widths) ∙ first-none
+start-fine p ok =
+    first-skip 1 _ _ (ok .count) ∙ first-skip 2 _ _ (ok .widths) ∙ first-skip 17 _ [] (ok .page) ∙ first-none
 
 -- past a plan that is not refused
 pub plan-passed : (p : Plan) (rest : List Refusal) → startNumber p ≡ 0 → first (planRow p ++ rest) ≡ first rest
@@ -133,6 +137,44 @@ width-bounds p ok u h = go (p .count) (ok .widths) h
               let z = eqb-false (width p n) 0 (f .0) in
               rw t (omega arith, ltb-false 256 (width p n) (f .1))
         ]
+
+pub page-fits : (p : Plan) → badPage p ≡ false → PageSize (p .page)
+unfolding badPage
+page-fits p e = go (p .page) (not-false _ e)
+  where
+    go : (n : ℕ) → eqb n 1 || (eqb n 4 || (eqb n 8 || eqb n 16)) ≡ true → PageSize n
+    go n h =
+        elim (same n 1) [
+          | equal q ↦ rw q one
+          | differ a ↦ elim (same n 4) [
+            | equal q ↦ rw q four
+            | differ b ↦ elim (same n 8) [
+              | equal q ↦ rw q eight
+              | differ c ↦ rw (eqb-true n 16 (rw (ne-eqb n 1 a, ne-eqb n 4 b, ne-eqb n 8 c) at h)) sixteen
+            ]
+          ]
+        ]
+
+pub fits-page : (p : Plan) → PageSize (p .page) → badPage p ≡ false
+unfolding badPage
+fits-page p size = go (p .page) size
+  where
+    go : (n : ℕ) → PageSize n → not (eqb n 1 || (eqb n 4 || (eqb n 8 || eqb n 16))) ≡ false
+    go n one = refl
+    go n four = refl
+    go n eight = refl
+    go n sixteen = refl
+
+-- a page has at least one byte: of its size the layout's laws use no more
+pub page-some : (p : Plan) → PlanOk p → 0 < p .page
+unfolding badPage
+page-some p ok =
+    elim (order 0 (p .page)) [
+      | below l ↦ l
+      | above l ↦
+          let z : p .page ≡ 0 = omega arith in
+          absurd (true≢false (rw z at (ok .page)))
+    ]
 
 -- ---- what every device call's 0 says
 pub record Past (v : View) (rest : List Refusal) : Type 0 where
@@ -179,6 +221,24 @@ wake-says v e = cold-only (v .job) (go (not (isCold (v .job))) refl)
     go true h = absurd (omega (arith, e, wake-awake v (first-front (deviceRow v) _ e) h))
     go false h = refl
 
+-- a cut of n bytes
+pub record CutPassed (v : View) (n : ℕ) : Type 0 where
+  pub plan : PlanOk (v .plan)
+  pub long : v .short ≡ false
+  pub job : badJob (v .plan) (v .job) ≡ false
+  pub size : n ≡ v .plan .page
+
+pub cut-says : (v : View) (n : ℕ) → cutNumber v n ≡ 0 → CutPassed v n
+unfolding cutNumber
+cut-says v n e =
+    let h = past v _ e in
+    record {
+      plan = h .plan;
+      long = h .long;
+      job = h .job;
+      size = eqb-true n (v .plan .page) (not-false _ (first-past 17 _ [] (h .more) .0));
+    }
+
 pub record Began (v : View) (u n : ℕ) : Type 0 where
   pub job : v .job ≡ ready
   pub unit : u < v .plan .count
@@ -214,9 +274,9 @@ module _ (v : View) (ok : PlanOk (v .plan)) (long : v .short ≡ false) where
   pub device-fine : badJob (v .plan) (v .job) ≡ false → first (deviceRow v) ≡ 0
   device-fine e = device-past [] e ∙ first-none
 
-  pub cut-any : badJob (v .plan) (v .job) ≡ false → cutNumber v ≡ 0
+  pub cut-any : (n : ℕ) → badJob (v .plan) (v .job) ≡ false → n ≡ v .plan .page → cutNumber v n ≡ 0
   unfolding cutNumber
-  cut-any e = device-fine e
+  cut-any n e h = device-past _ e ∙ first-skip 18 _ [] (ap not (eq-eqb n (v .plan .page) h)) ∙ first-none
 
   module _ (e : v .job ≡ cold) where
     cold-fine : badJob (v .plan) (v .job) ≡ false
@@ -276,7 +336,7 @@ first-from (r ∷ pre) xs ys h = go (r .holds) h (first-from pre xs ys)
 pub device-passed : (v : View) (xs ys : List Refusal) → first (deviceRow v ++ xs) ≡ 0 → first (deviceRow v ++ ys) ≡ first ys
 device-passed v xs ys e = first-passed (deviceRow v) ys refl (first-front (deviceRow v) xs e)
 
--- ---- two views that no call tells apart: begin and wake look at markers of units that the plan has
+-- ---- two views that no call tells apart: calls look at markers of units that the plan has
 pub record Alike (v v′ : View) : Type 0 where
   pub plan : v .plan ≡ v′ .plan
   pub short : v .short ≡ v′ .short
@@ -288,17 +348,23 @@ module _ {v v′ : View} (a : Alike v v′) where
   unfolding stepNumber
   step-alike = rw (a .plan, a .short, a .job)
 
-  pub cut-alike : cutNumber v ≡ cutNumber v′
+  pub cut-alike : (n : ℕ) → cutNumber v n ≡ cutNumber v′ n
   unfolding cutNumber
-  cut-alike = rw (a .plan, a .short, a .job)
+  cut-alike n = rw (a .plan, a .short, a .job)
 
   pub wake-alike : wakeNumber v ≡ wakeNumber v′
   unfolding wakeNumber
   wake-alike = rw (a .plan, a .short, a .job, foreign-alike (v .marker) (v′ .marker) (v′ .plan .count) (a .marker))
 
-  pub begin-alike : (u n : ℕ) → beginNumber v u n ≡ beginNumber v′ u n
-  unfolding beginNumber
-  begin-alike u n =
+  pub inspect-alike : inspectNumber v ≡ inspectNumber v′
+  unfolding inspectNumber
+  inspect-alike = rw (a .plan, a .short, a .job)
+
+  -- a unit's marker is looked at after 6
+  marker-alike : (u : ℕ) (rest : Plan → ℕ → List Refusal)
+      → first (deviceRow v ++ (5 when not (isReady (v .job)) ∷ 6 when leb (v .plan .count) u ∷ rest (v .plan) (v .marker u)))
+      ≡ first (deviceRow v′ ++ (5 when not (isReady (v′ .job)) ∷ 6 when leb (v′ .plan .count) u ∷ rest (v′ .plan) (v′ .marker u)))
+  marker-alike u rest =
       elim (order u (v′ .plan .count)) [
         | below l ↦ rw (a .plan, a .short, a .job, a .marker u l)
         | above l ↦
@@ -307,3 +373,15 @@ module _ {v v′ : View} (a : Alike v v′) where
             (first-behind (deviceRow v′ ++ (5 when not (isReady (v′ .job)) ∷ [])) _ _
             (first-stop 6 _ _ six ∙ sym (first-stop 6 _ _ six)))
       ]
+
+  pub begin-alike : (u n : ℕ) → beginNumber v u n ≡ beginNumber v′ u n
+  unfolding beginNumber
+  begin-alike u n = marker-alike u (λ p m. 7 when not (eqb n (width p u)) ∷ 8 when not (eqb m OK) ∷ [])
+
+  pub read-alike : (u : ℕ) → readNumber v u ≡ readNumber v′ u
+  unfolding readNumber
+  read-alike u = marker-alike u (λ p m. 8 when not (eqb m OK) ∷ [])
+
+  pub total-alike : (u : ℕ) → totalNumber v u ≡ totalNumber v′ u
+  unfolding totalNumber
+  total-alike u = marker-alike u (λ p m. 8 when not (eqb m OK) ∷ 16 when not (eqb (width p u) 8) ∷ [])

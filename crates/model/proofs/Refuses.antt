@@ -1,4 +1,4 @@
--- Each call answers the lowest number whose condition holds: specs/Refuses.antt.
+-- Each call answers the number that is tested first of those whose condition holds: specs/Refuses.antt.
 use Prim.Native.Nat.{ℕ, zero, suc, _+_, _≤_, _<_}
 use mathlib.Core.Path.{_≡_, refl, sym, ap, _∙_, subst}
 use mathlib.Core.List.{List, [], _∷_, _++_}
@@ -12,14 +12,15 @@ use Rattle.model.specs.declared.Phase.{Phase}
 use Rattle.model.specs.declared.Phase.the-variants.{Cold, Ready, Writing, Recovering}
 use Rattle.model.specs.Marker.{OK, FOREIGN, isForeign}
 use Rattle.model.specs.Layout.{marker, width, total, get}
-use Rattle.model.specs.Refusals.{isCold, isReady, writeTotal, cleanupTotal, badCount, badWidths, badJob, Refusal, _when_, first, planRow, deviceRow, anyForeign, startNumber, formatNumber, beginNumber, stepNumber, wakeNumber, cutNumber, readNumber, inspectNumber, rideNumber, totalNumber}
+use Rattle.model.specs.Refusals.{isCold, isReady, writeTotal, cleanupTotal, badCount, badWidths, badPage, badJob, Refusal, _when_, first, planRow, deviceRow, anyForeign, startNumber, formatNumber, beginNumber, stepNumber, wakeNumber, cutNumber, readNumber, inspectNumber, rideNumber, totalNumber}
 use Rattle.model.specs.Turns.{amount}
 use Rattle.model.specs.Calls.{Device, Outcome, view, heldIn, jobOf, unlessRefused, startAnswer}
 use Rattle.model.specs.Calls as calls
-use Rattle.model.specs.Refuses.{First, Lowest, BadPlan, noUnit, manyUnits, noWidth, wide, BadDevice, plan, short, writingNoUnit, writingMade, cleaningNoUnit, cleaningMade, BadFormat, BadWake, foreign, BadStep, BadRead, BadBegin, size, BadRide, rideOrder, BadTotal, RefusedExactly}
+use Rattle.model.specs.Refuses.{First, refusalOrder, Lowest, BadPlan, noUnit, manyUnits, noWidth, wide, otherPage, BadDevice, plan, short, writingNoUnit, writingMade, cleaningNoUnit, cleaningMade, BadCut, otherSize, BadFormat, BadWake, foreign, BadStep, BadRead, BadBegin, size, BadRide, rideOrder, BadTotal, RefusedExactly}
 use Rattle.model.specs.Refuses as bad
 use Rattle.model.proofs.Compare.{below, above, order, equal, differ, same}
 use Rattle.model.proofs.MarkerLaws.{not-foreign}
+use Rattle.model.proofs.RefusalLaws.{false-or}
 use Rattle.model.proofs.TurnLaws.{held-amount}
 
 -- ---- A refusal of the row has the number k and holds: it is the first, or one of the rest.
@@ -86,13 +87,13 @@ module _ (order : ℕ → ℕ) where
         first = λ k a. least 1 k row (omega arith) rise (from k a);
       }
 
--- most rows rise
+-- most rows stand in one order
 abbrev Rising : ℕ → List Refusal → Type 0
-Rising = Ordered (λ k. k)
+Rising = Ordered refusalOrder
 
 lowest : (Applies : ℕ → Type 0) (row : List Refusal) → Rising 1 row
     → ((k : ℕ) → Says k row → Applies k) → ((k : ℕ) → Applies k → Says k row) → Lowest Applies (first row)
-lowest = earliest (λ k. k)
+lowest = earliest refusalOrder
 
 -- what applies for one number applies for an equal one
 number-is : (Applies : ℕ → Type 0) (n k : ℕ) → n ≡ k → Applies n → Applies k
@@ -110,7 +111,7 @@ or-right : (x y : Bool) → y ≡ true → x || y ≡ true
 or-right true y e = refl
 or-right false y e = e
 
--- ---- 1 and 2
+-- ---- 1, 2 and 17
 module _ (p : Plan) where
   width-bad : (n : ℕ) → n ≤ p .count → badWidths p n ≡ true → BadPlan p 2
   unfolding badWidths
@@ -132,6 +133,21 @@ module _ (p : Plan) where
         | differ q ↦ or-left (badWidths p n) _ (bad-width u n (omega arith) h)
       ]
 
+  -- the four sizes, one by one
+  page-bad : badPage p ≡ true → BadPlan p 17
+  unfolding badPage
+  page-bad h =
+      let none : eqb (p .page) 1 || (eqb (p .page) 4 || (eqb (p .page) 8 || eqb (p .page) 16)) ≡ false = not-true _ h in
+      let h₁ = false-or (eqb (p .page) 1) _ none in
+      let h₄ = false-or (eqb (p .page) 4) _ (h₁ .1) in
+      let h₈ = false-or (eqb (p .page) 8) _ (h₄ .1) in
+      otherPage (eqb-false (p .page) 1 (h₁ .0)) (eqb-false (p .page) 4 (h₄ .0)) (eqb-false (p .page) 8 (h₈ .0))
+      (eqb-false (p .page) 16 (h₈ .1))
+
+  bad-page : ¬ (p .page ≡ 1) → ¬ (p .page ≡ 4) → ¬ (p .page ≡ 8) → ¬ (p .page ≡ 16) → badPage p ≡ true
+  unfolding badPage
+  bad-page h₁ h₄ h₈ h₁₆ = rw (ne-eqb (p .page) 1 h₁, ne-eqb (p .page) 4 h₄, ne-eqb (p .page) 8 h₈, ne-eqb (p .page) 16 h₁₆)
+
   plan-to : (k : ℕ) → Says k (planRow p) → BadPlan p k
   unfolding badCount
   plan-to k (here e h) =
@@ -141,7 +157,8 @@ module _ (p : Plan) where
       (λ q. manyUnits (ltb-true 8 (p .count) q))
       h)
   plan-to k (there (here e h)) = number-is (BadPlan p) 2 k e (width-bad (p .count) (omega arith) h)
-  plan-to k (there (there s)) = absurd s
+  plan-to k (there (there (here e h))) = number-is (BadPlan p) 17 k e (page-bad h)
+  plan-to k (there (there (there s))) = absurd s
 
   plan-from : (k : ℕ) → BadPlan p k → Says k (planRow p)
   unfolding badCount
@@ -149,6 +166,7 @@ module _ (p : Plan) where
   plan-from k (manyUnits h) = here refl (or-right (eqb (p .count) 0) _ (lt-ltb 8 (p .count) h))
   plan-from k (noWidth u l e) = there (here refl (bad-width u (p .count) l (or-left _ _ (eq-eqb (width p u) 0 e))))
   plan-from k (wide u l h) = there (here refl (bad-width u (p .count) l (or-right (eqb (width p u) 0) _ (lt-ltb 256 (width p u) h))))
+  plan-from k (otherPage h₁ h₄ h₈ h₁₆) = there (there (here refl (bad-page h₁ h₄ h₈ h₁₆)))
 
 -- ---- the phase, and a foreign marker
 cold-is : (phase : Phase) → isCold (jobOf phase) ≡ true → phase ≡ Cold
@@ -240,14 +258,14 @@ module _ (d : Device) (image : List ℕ) where
   device-from k (cleaningMade u made way now h) =
       four (rw now (or-right (leb (p .count) u) _ (le-leb (cleanupTotal (width p u)) made h)))
 
-  rising : (row : List Refusal) → Rising 4 row → Rising 1 (deviceRow (view d image) ++ row)
-  rising row rise = (omega arith, (omega arith, (omega arith, (omega arith, rise))))
+  rising : (row : List Refusal) → Rising 40 row → Rising 1 (deviceRow (view d image) ++ row)
+  rising row rise = (omega arith, (omega arith, (omega arith, (omega arith, (omega arith, rise)))))
 
   device-lowest : Lowest (BadDevice d image) (first (deviceRow (view d image)))
   device-lowest = lowest (BadDevice d image) (deviceRow (view d image)) (rising [] tt) device-to device-from
 
   -- ---- a call's row is the device's, and what is behind it
-  behind : (Bad : ℕ → Type 0) (row : List Refusal) → Rising 4 row → ((k : ℕ) → BadDevice d image k → Bad k)
+  behind : (Bad : ℕ → Type 0) (row : List Refusal) → Rising 40 row → ((k : ℕ) → BadDevice d image k → Bad k)
       → ((k : ℕ) → Says k row → Bad k) → ((k : ℕ) → Bad k → Says k (deviceRow (view d image) ++ row))
       → Lowest Bad (first (deviceRow (view d image) ++ row))
   behind Bad row rise up to from =
@@ -259,6 +277,22 @@ module _ (d : Device) (image : List ℕ) where
 
   back : (k : ℕ) (row : List Refusal) → Says k row → Says k (deviceRow (view d image) ++ row)
   back k row s = says-right k (deviceRow (view d image)) row s
+
+  -- ---- cut
+  cut-lowest : (bytes : List ℕ) → Lowest (BadCut d image bytes) (cutNumber (view d image) (length bytes))
+  unfolding cutNumber
+  cut-lowest bytes = behind (BadCut d image bytes) row (omega arith, tt) (λ k b. bad.BadCut.device b) to from
+    where
+      row : List Refusal
+      row = 18 when not (eqb (length bytes) (p .page)) ∷ []
+
+      to : (k : ℕ) → Says k row → BadCut d image bytes k
+      to k (here e h) = number-is (BadCut d image bytes) 18 k e (otherSize (eqb-false (length bytes) (p .page) (not-true _ h)))
+      to k (there q) = absurd q
+
+      from : (k : ℕ) → BadCut d image bytes k → Says k (deviceRow (view d image) ++ row)
+      from k (bad.BadCut.device b) = front k row b
+      from k (otherSize h) = back 18 row (here refl (rw (ne-eqb (length bytes) (p .page) h)))
 
   -- ---- format and step
   format-lowest : Lowest (BadFormat d image) (formatNumber (view d image))
@@ -430,7 +464,7 @@ module _ (d : Device) (image : List ℕ) where
     unfolding rideNumber get
     ride-first =
         earliest rideOrder Ride (deviceRow (view d image) ++ row)
-        (omega arith, (omega arith, (omega arith, (omega arith, (omega arith, (omega arith, (omega arith, (omega arith, tt))))))))
+        (omega arith, (omega arith, (omega arith, (omega arith, (omega arith, (omega arith, (omega arith, (omega arith, (omega arith, tt)))))))))
         (λ k s. says-split (Ride k) k (deviceRow (view d image)) row (λ q. bad.BadRide.device (device-to k q)) (to k) s) from
       where
         row : List Refusal
@@ -465,17 +499,17 @@ started zero p = refl
 started (suc n) p = refl
 
 pub refused-exactly : RefusedExactly
-unfolding startNumber cutNumber inspectNumber calls.start calls.format calls.begin calls.ride calls.step calls.wake calls.cut
+unfolding startNumber inspectNumber calls.start calls.format calls.begin calls.ride calls.step calls.wake calls.cut
 refused-exactly d image =
     record {
       start = subst (Lowest (BadPlan (d .plan))) (started _ _)
-          (lowest (BadPlan (d .plan)) (planRow (d .plan)) (omega arith, (omega arith, tt)) (plan-to (d .plan)) (plan-from (d .plan)));
+          (lowest (BadPlan (d .plan)) (planRow (d .plan)) (omega arith, (omega arith, (omega arith, tt))) (plan-to (d .plan)) (plan-from (d .plan)));
       format = subst (Lowest (BadFormat d image)) (told _ d image _ refl) (format-lowest d image);
       begin = λ u payload. subst (Lowest (BadBegin d image u payload)) (told _ d image _ refl) (begin-lowest d image u payload);
       ride = λ turns. subst (First rideOrder (BadRide d image turns)) (told _ d image _ refl) (ride-first d image turns);
       step = subst (Lowest (BadStep d image)) (told _ d image _ refl) (step-lowest d image);
       wake = subst (Lowest (BadWake d image)) (told _ d image _ refl) (wake-lowest d image);
-      cut = λ m. subst (Lowest (BadDevice d image)) (told _ d image _ refl) (device-lowest d image);
+      cut = λ bytes. subst (Lowest (BadCut d image bytes)) (told _ d image _ refl) (cut-lowest d image bytes);
       read = read-lowest d image;
       total = total-lowest d image;
       inspect = device-lowest d image;

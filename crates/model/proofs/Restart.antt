@@ -13,7 +13,7 @@ use Rattle.model.specs.Calls as calls
 use Rattle.model.specs.Ledger.{Ledger, Call, begin, ride, step, cut, wake, opening, judged, told, fed}
 use Rattle.model.specs.PowerCut.{call, run, closedBy}
 use Rattle.model.specs.Restart.{restarted, Leads, ended, called, lost, uncounted, PowerCutRestarting, RestartingAlike}
-use Rattle.model.proofs.RefusalLaws.{PlanOk, start-fine, cut-any}
+use Rattle.model.proofs.RefusalLaws.{PlanOk, start-fine}
 use Rattle.model.proofs.LedgerLaws.{ledger-small}
 use Rattle.model.proofs.Invariant.{Inv}
 use Rattle.model.proofs.Keeps.{keeps}
@@ -37,8 +37,9 @@ count-alone step o =
     settle (stepNumber (view (o .device) (o .image))) o
     (λ d. let i = imageAfter completed d (o .image) in outcome 0 (asStepped (phaseAfter (d .plan) i (d .phase)) d) i)
     refl
-count-alone (cut m) o =
-    settle (cutNumber (view (o .device) (o .image))) o (λ d. outcome 0 (asCut d) (imageAfter (tornBy m) d (o .image))) refl
+count-alone (cut bytes) o =
+    settle (cutNumber (view (o .device) (o .image)) (length bytes)) o
+    (λ d. outcome 0 (asCut d) (imageAfter (tornBy bytes) d (o .image))) refl
 count-alone wake o =
     settle (wakeNumber (view (o .device) (o .image))) o (λ d. outcome 0 (asWoken (cleanupFrom (d .plan) (o .image) 0) d) (o .image)) refl
 
@@ -51,12 +52,12 @@ unfolding calls.start startNumber
 starts p ok = rw (start-fine p ok)
 
 module _ (p : Plan) (ok : PlanOk p) (before : List ℕ) where
-  cut-restarted : (o : Outcome) (m : ℕ) → o .device .plan ≡ p → call (cut m) o .number ≡ 0
-      → restarted p (call (cut m) o) ≡ uncounted (call (cut m) o)
+  cut-restarted : (o : Outcome) (bytes : List ℕ) → o .device .plan ≡ p → call (cut bytes) o .number ≡ 0
+      → restarted p (call (cut bytes) o) ≡ uncounted (call (cut bytes) o)
   unfolding call calls.cut
-  cut-restarted o m plan e =
-      let z : cutNumber (view (o .device) (o .image)) ≡ 0 = accepts _ _ _ _ e in
-      rw (starts p ok, z) (ap (λ (q : Plan). outcome 0 (asStarted q) (imageAfter (tornBy m) (o .device) (o .image))) (sym plan))
+  cut-restarted o bytes plan e =
+      let z : cutNumber (view (o .device) (o .image)) (length bytes) ≡ 0 = accepts _ _ _ _ e in
+      rw (starts p ok, z) (ap (λ (q : Plan). outcome 0 (asStarted q) (imageAfter (tornBy bytes) (o .device) (o .image))) (sym plan))
 
   -- ---- along a list: o is what it comes to without a start, o′ what it comes to with some
   alike-along : {cs : List Call} {o′ end : Outcome} → Leads p cs o′ end → (l : Ledger) (o : Outcome) → Inv p before l o
@@ -65,16 +66,9 @@ module _ (p : Plan) (ok : PlanOk p) (before : List ℕ) where
   alike-along ended l o inv e = e
   alike-along {o′ = o′} (called {c = c} t) l o inv e =
       alike-along t (fed p l c) (call c o) (keeps p ok before l o inv c .kept) (alike c o o′ e)
-  alike-along {o′ = o′} (lost {m = m} t) l o inv e =
-      alike-along t (fed p l (cut m)) (call (cut m) o) (keeps p ok before l o inv (cut m) .kept)
-      (ap uncounted (cut-restarted o′ m (ap (λ (x : Outcome). x .device .plan) e ∙ inv .plan) (ap (λ (x : Outcome). x .number) is ∙ fine))
-      ∙ is)
-    where
-      is : uncounted (call (cut m) o′) ≡ uncounted (call (cut m) o)
-      is = alike (cut m) o o′ e
-
-      fine : call (cut m) o .number ≡ 0
-      fine = keeps p ok before l o inv (cut m) .answer ∙ cut-any (judged p l) ok refl (job-fine p ok before l o inv)
+  alike-along {o′ = o′} (lost {bytes = bytes} fine t) l o inv e =
+      alike-along t (fed p l (cut bytes)) (call (cut bytes) o) (keeps p ok before l o inv (cut bytes) .kept)
+      (ap uncounted (cut-restarted o′ bytes (ap (λ (x : Outcome). x .device .plan) e ∙ inv .plan) fine) ∙ alike (cut bytes) o o′ e)
 
   -- ---- the invariant holds with any count
   abbrev counting : ℕ → Outcome → Outcome
@@ -94,12 +88,12 @@ restarting-alike d image e cs end t =
     alike-along (d .plan) (h .0) image t (opening (d .plan)) (calls.format d image) (h .1) refl
 
 pub power-cut-restarting : PowerCutRestarting
-power-cut-restarting d image e cs m end t =
+power-cut-restarting d image e cs bytes end closes t =
     let h = format-opens d image e in
     let p : Plan = d .plan in
     let f : Outcome = calls.format d image in
-    let i = along p (h .0) image (closedBy m cs) (opening p) f (h .1) .inv in
+    let i = along p (h .0) image (closedBy bytes cs) (opening p) f (h .1) .inv in
     repaired p (h .0) image _ end
-    (inv-alike p (h .0) image _ (run (closedBy m cs) f) end (restarting-alike d image e (closedBy m cs) end t) i)
-    (ends-cold p (h .0) image cs m (opening p) f (h .1))
-    (ledger-small p (closedBy m cs))
+    (inv-alike p (h .0) image _ (run (closedBy bytes cs) f) end (restarting-alike d image e (closedBy bytes cs) end t) i)
+    (ends-cold p (h .0) image cs bytes (opening p) f (h .1) closes)
+    (ledger-small p (closedBy bytes cs))

@@ -15,10 +15,10 @@ use Rattle.model.specs.Calls.{Device, Outcome, outcome, asStarted, asFor
 use Rattle.model.specs.Calls as calls
 use Rattle.model.specs.Ledger.{Ledger, Call, step, cut, wake, opening, judged, told, accepted, fed, tells, after, wasCut}
 use Rattle.model.specs.Ledger as ledger
-use Rattle.model.specs.PowerCut.{call, run, answers, closedBy, repair, Repairs, none, only, Repaired, Survives, PowerCut, PowerCutFromStart}
+use Rattle.model.specs.PowerCut.{call, run, answers, closedBy, repair, Repairs, none, only, Repaired, Survives, Closes, PowerCut, PowerCutFromStart, CutAccepted}
 use Rattle.model.specs.Foreign.{NeverForeign}
 use Rattle.model.proofs.Compare.{Same, equal, differ, same}
-use Rattle.model.proofs.RefusalLaws.{PlanOk, count-bounds, start-says, format-says, format-cold, job-recovering, wake-cold, cut-any, step-recovering}
+use Rattle.model.proofs.RefusalLaws.{PlanOk, count-bounds, start-says, format-says, format-cold, job-recovering, wake-cold, cut-any, cut-says, step-recovering}
 use Rattle.model.proofs.LayoutLaws.{copy-is, get-formatted, length-formatted, rest-formatted}
 use Rattle.model.proofs.LedgerLaws.{at, notes-copy, notes-settle, none-foreign, ledger-small}
 use Rattle.model.proofs.Invariant.{Whole, Clean, loaded-fine, Stage, resting, off, opened, toA, toB, mending, phased, job-phased, Inv, all-clean}
@@ -62,7 +62,7 @@ module _ (p : Plan) (ok : PlanOk p) (before : List ℕ) where
       let t = along cs (fed p l c) (call c o) (h .kept) in
       record { answered = ap₂ _∷_ (h .answer) (t .answered); inv = t .inv }
 
-  -- ---- the closing cut is accepted and leaves Cold
+  -- ---- the closing cut leaves Cold, if it is accepted
   pub job-fine : (l : Ledger) (o : Outcome) → Inv p before l o → badJob p (l .job) ≡ false
   unfolding badJob
   job-fine l o inv = go (inv .stage)
@@ -82,12 +82,11 @@ module _ (p : Plan) (ok : PlanOk p) (before : List ℕ) where
   unfolding fed
   fed-accepted l c e = rw e
 
-  cut-leaves-cold : (l : Ledger) (o : Outcome) (m : ℕ) → Inv p before l o → fed p l (cut m) .job ≡ cold
-  unfolding told accepted
-  cut-leaves-cold l o m inv =
-      rw (fed-accepted l (cut m) (cut-any (judged p l) ok refl (job-fine l o inv))) (go (l .job))
+  cut-leaves-cold : (l : Ledger) (bytes : List ℕ) → told p l (cut bytes) ≡ 0 → fed p l (cut bytes) .job ≡ cold
+  unfolding accepted
+  cut-leaves-cold l bytes e = rw (fed-accepted l (cut bytes) e) (go (l .job))
     where
-      go : (j : Job) → wasCut p l m j .job ≡ cold
+      go : (j : Job) → wasCut p l bytes j .job ≡ cold
       go cold = refl
       go ready = refl
       go (writing u n) = refl
@@ -98,9 +97,26 @@ module _ (p : Plan) (ok : PlanOk p) (before : List ℕ) where
   after-snoc [] c l = refl
   after-snoc (x ∷ cs) c l = after-snoc cs c (fed p l x)
 
-  pub ends-cold : (cs : List Call) (m : ℕ) (l : Ledger) (o : Outcome) → Inv p before l o → after p l (closedBy m cs) .job ≡ cold
-  ends-cold cs m l o inv =
-      rw (after-snoc cs (cut m) l) (cut-leaves-cold (after p l cs) (run cs o) m (along cs l o inv .inv))
+  -- the ledger tells the closing cut's answer
+  closing : (cs : List Call) (bytes : List ℕ) (l : Ledger) (o : Outcome) → Inv p before l o
+      → call (cut bytes) (run cs o) .number ≡ told p (after p l cs) (cut bytes)
+  closing cs bytes l o inv = keeps p ok before (after p l cs) (run cs o) (along cs l o inv .inv) (cut bytes) .answer
+
+  pub ends-cold : (cs : List Call) (bytes : List ℕ) (l : Ledger) (o : Outcome) → Inv p before l o → Closes bytes cs o
+      → after p l (closedBy bytes cs) .job ≡ cold
+  ends-cold cs bytes l o inv e =
+      rw (after-snoc cs (cut bytes) l) (cut-leaves-cold (after p l cs) bytes (sym (closing cs bytes l o inv) ∙ e))
+
+  -- and it is accepted exactly if it has as many bytes as a page
+  cut-accepted : (cs : List Call) (bytes : List ℕ) (l : Ledger) (o : Outcome) → Inv p before l o
+      → (length bytes ≡ p .page → Closes bytes cs o) × (Closes bytes cs o → length bytes ≡ p .page)
+  unfolding told
+  cut-accepted cs bytes l o inv =
+      let now : Ledger = after p l cs in (
+        (λ e. closing cs bytes l o inv
+            ∙ cut-any (judged p now) ok refl (length bytes) (job-fine now (run cs o) (along cs l o inv .inv)) e),
+        λ e. cut-says (judged p now) (length bytes) (sym (closing cs bytes l o inv) ∙ e) .size,
+      )
 
   -- ---- the ledger alone goes through a repair: n accepted steps, none of them from Ready, that save nothing
   pub data Mends : Ledger → ℕ → Ledger → Type 0 where
@@ -246,12 +262,13 @@ module _ (p : Plan) (ok : PlanOk p) (before : List ℕ) where
           repaired-in l o inv woken (ap (λ (x : Ledger). x .saved) to) (1 + width p u)
           (only u (inv .frame .unit) (rw (inv .mark) q) others) (settled l₀ u) (rw plus at mends) refl
 
-  survives : (f : Outcome) → Inv p before (opening p) f → (cs : List Call) (m : ℕ) → Survives p before f m cs
-  survives f inv cs m =
-      let t = along (closedBy m cs) (opening p) f inv in
+  survives : (f : Outcome) → Inv p before (opening p) f → (cs : List Call) (bytes : List ℕ) → Closes bytes cs f
+      → Survives p before f bytes cs
+  survives f inv cs bytes e =
+      let t = along (closedBy bytes cs) (opening p) f inv in
       record {
         answered = t .answered;
-        repaired = repaired _ _ (t .inv) (ends-cold cs m (opening p) f inv) (ledger-small p (closedBy m cs));
+        repaired = repaired _ _ (t .inv) (ends-cold cs bytes (opening p) f inv e) (ledger-small p (closedBy bytes cs));
       }
 
   -- ---- Ticket 4: the image has the ledger's markers
@@ -285,10 +302,15 @@ power-cut d image e =
     let h = format-opens d image e in
     survives (d .plan) (h .0) image (calls.format d image) (h .1)
 
-pub never-foreign : NeverForeign
-never-foreign d image e cs m n =
+pub cut-accepted-exactly : CutAccepted
+cut-accepted-exactly d image e cs bytes =
     let h = format-opens d image e in
-    image-small (d .plan) (h .0) image (calls.format d image) (h .1) (take n (closedBy m cs))
+    cut-accepted (d .plan) (h .0) image cs bytes (opening (d .plan)) (calls.format d image) (h .1)
+
+pub never-foreign : NeverForeign
+never-foreign d image e cs bytes n =
+    let h = format-opens d image e in
+    image-small (d .plan) (h .0) image (calls.format d image) (h .1) (take n (closedBy bytes cs))
 
 start-accepts : (p : Plan) → calls.start p .number ≡ 0 → (startNumber p ≡ 0) × (calls.start p .device ≡ asStarted p)
 unfolding calls.start

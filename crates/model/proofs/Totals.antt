@@ -57,7 +57,7 @@ module _ (p : Plan) where
   module _ (l : Ledger) (due : List ℕ) where
     abbrev After : End → Job → Type 0
     After completed j = Stored l (stepped p l j) (passesNext p l completed j) due
-    After (tornBy m) j = Stored l (wasCut p l m j) (passesNext p l (tornBy m) j) due
+    After (tornBy bytes) j = Stored l (wasCut p l bytes j) (passesNext p l (tornBy bytes) j) due
 
     none-counted : (t : Bool) → t ≡ false → sum (cond t due []) ≡ 0
     unfolding sum
@@ -91,12 +91,12 @@ module _ (p : Plan) where
         goes-by (stepped p l (writing u n)) _ f (kept u _ f) (over (over-cond (eqb (suc n) (2 * width p u + 3)) _ _ tt (omega arith)))
     store-over completed (recovering u n) is h =
         goes-by (stepped p l (recovering u n)) false refl refl (over (over-cond (eqb (suc n) (width p u + 1)) _ _ tt tt))
-    store-over (tornBy m) cold is h = goes-by (wasCut p l m cold) false refl refl (over tt)
-    store-over (tornBy m) ready is h = goes-by (wasCut p l m ready) false refl refl (over tt)
-    store-over (tornBy m) (writing u n) is h =
-        let f : passesAt p l u (suc n) (tornBy m) ≡ false = rw (ne-eqb (suc n) (width p u + 2) (omega arith)) in
-        goes-by (wasCut p l m (writing u n)) _ f (kept u _ f) (over tt)
-    store-over (tornBy m) (recovering u n) is h = goes-by (wasCut p l m (recovering u n)) false refl refl (over tt)
+    store-over (tornBy bytes) cold is h = goes-by (wasCut p l bytes cold) false refl refl (over tt)
+    store-over (tornBy bytes) ready is h = goes-by (wasCut p l bytes ready) false refl refl (over tt)
+    store-over (tornBy bytes) (writing u n) is h =
+        let f : passesAt p l u (suc n) (tornBy bytes) ≡ false = rw (ne-eqb (suc n) (width p u + 2) (omega arith)) in
+        goes-by (wasCut p l bytes (writing u n)) _ f (kept u _ f) (over tt)
+    store-over (tornBy bytes) (recovering u n) is h = goes-by (wasCut p l bytes (recovering u n)) false refl refl (over tt)
 
     module _ (u n : ℕ) (le : n ≤ suc (width p u)) (eq : amount (saving u (l .payload) (l .saved) 0) ≡ amount (l .saved 0) + sum due) where
       gained : (t : Bool) → t ≡ true → amount (savedIf u t 0) ≡ amount (l .saved 0) + sum due
@@ -113,8 +113,8 @@ module _ (p : Plan) where
           goes-by (stepped p l (writing u n)) _ f (kept u _ f)
           (writes u (suc n) goes-on (omega (arith, eqb-false (suc n) (width p u + 2) f))
           (subst (λ (g : ℕ → List ℕ). amount (saving u (l .payload) g 0) ≡ amount (g 0) + sum due) (sym (kept u _ f)) eq))
-      store-write (tornBy m) true f = passes-at (wasCut p l m (writing u n)) _ f (gained _ f) (over tt)
-      store-write (tornBy m) false f = goes-by (wasCut p l m (writing u n)) _ f (kept u _ f) (over tt)
+      store-write (tornBy bytes) true f = passes-at (wasCut p l bytes (writing u n)) _ f (gained _ f) (over tt)
+      store-write (tornBy bytes) false f = goes-by (wasCut p l bytes (writing u n)) _ f (kept u _ f) (over tt)
 
     store-any : (e : End) → State l due → After e (l .job)
     store-any e (over h) = store-over e (l .job) refl h
@@ -157,10 +157,10 @@ module _ (p : Plan) where
       let s = store-any l due completed st in
       record { gains = s .gains; state = s .state }
 
-  cut-called : (m : ℕ) → Accepts (cut m)
+  cut-called : (bytes : List ℕ) → Accepts (cut bytes)
   unfolding accepted
-  cut-called m l due e st =
-      let s = store-any l due (tornBy m) st in
+  cut-called bytes l due e st =
+      let s = store-any l due (tornBy bytes) st in
       record { gains = s .gains; state = s .state }
 
   wake-called : Accepts wake
@@ -195,16 +195,16 @@ module _ (p : Plan) where
   adds (begin u payload ∷ cs) h = adds-call (begin u payload) cs (begin-called u payload (h .0)) (adds cs (h .1))
   adds (ride turns ∷ cs) h = adds-call (ride turns) cs (ride-called turns) (adds cs h)
   adds (step ∷ cs) h = adds-call step cs step-called (adds cs h)
-  adds (cut m ∷ cs) h = adds-call (cut m) cs (cut-called m) (adds cs h)
+  adds (cut bytes ∷ cs) h = adds-call (cut bytes) cs (cut-called bytes) (adds cs h)
   adds (wake ∷ cs) h = adds-call wake cs wake-called (adds cs h)
 
-  closed : (u m : ℕ) (cs : List Call) → NoBegin u cs → NoBegin u (closedBy m cs)
-  closed u m [] h = tt
-  closed u m (begin v payload ∷ cs) h = (h .0, closed u m cs (h .1))
-  closed u m (ride turns ∷ cs) h = closed u m cs h
-  closed u m (step ∷ cs) h = closed u m cs h
-  closed u m (cut x ∷ cs) h = closed u m cs h
-  closed u m (wake ∷ cs) h = closed u m cs h
+  closed : (u : ℕ) (bytes : List ℕ) (cs : List Call) → NoBegin u cs → NoBegin u (closedBy bytes cs)
+  closed u bytes [] h = tt
+  closed u bytes (begin v payload ∷ cs) h = (h .0, closed u bytes cs (h .1))
+  closed u bytes (ride turns ∷ cs) h = closed u bytes cs h
+  closed u bytes (step ∷ cs) h = closed u bytes cs h
+  closed u bytes (cut other ∷ cs) h = closed u bytes cs h
+  closed u bytes (wake ∷ cs) h = closed u bytes cs h
 
   pub turns-saved : (cs : List Call) → NoBegin 0 cs → amount (after p (opening p) cs .saved 0) ≡ turnsOver p cs
   unfolding opening
@@ -223,19 +223,19 @@ shown p ok o plan phase long markers w turns holds =
     ∙ ap₂ totalUnlessRefused n holds
 
 pub turns-add-up : TurnsAddUp
-turns-add-up d image e cs m h =
+turns-add-up d image e cs bytes closes h =
     let p : Plan = d .plan in
     let f : Outcome = calls.format d image in
     let opens = format-opens d image e in
     let first : 0 < p .count = count-bounds p (opens .0) .0 in
-    let s = power-cut d image e cs m .repaired in
-    let i = along p (opens .0) image (repair (s .steps)) _ _ (along p (opens .0) image (closedBy m cs) (opening p) f (opens .1) .inv) .inv in
-    let holds : (c : Copy) → amount (copyOf p (run (repair (s .steps)) (run (closedBy m cs) f) .image) 0 c) ≡ turnsOver p (closedBy m cs) =
-    λ c. ap amount (s .copies 0 first c) ∙ turns-saved p (closedBy m cs) (closed p 0 m cs h) in
+    let s = power-cut d image e cs bytes closes .repaired in
+    let i = along p (opens .0) image (repair (s .steps)) _ _ (along p (opens .0) image (closedBy bytes cs) (opening p) f (opens .1) .inv) .inv in
+    let holds : (c : Copy) → amount (copyOf p (run (repair (s .steps)) (run (closedBy bytes cs) f) .image) 0 c) ≡ turnsOver p (closedBy bytes cs) =
+    λ c. ap amount (s .copies 0 first c) ∙ turns-saved p (closedBy bytes cs) (closed p 0 bytes cs h) in
     record {
       steps = s .steps;
       needed = s .needed;
       accepted = s .accepted;
       holds = holds;
-      shows = λ w. shown p (opens .0) (run (repair (s .steps)) (run (closedBy m cs) f)) (i .plan) (s .ready) (i .frame .long) (s .markers) w _ (holds copyA);
+      shows = λ w. shown p (opens .0) (run (repair (s .steps)) (run (closedBy bytes cs) f)) (i .plan) (s .ready) (i .frame .long) (s .markers) w _ (holds copyA);
     }

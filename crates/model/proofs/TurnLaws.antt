@@ -90,6 +90,7 @@ held-amount p image u =
 -- ---- an accepted ride is an accepted begin of unit 0
 pub record Rode (v : View) (bytes : List ℕ) (turns : ℕ) : Type 0 where
   pub plan : PlanOk (v .plan)
+  pub long : v .short ≡ false
   pub job : v .job ≡ ready
   pub wide : width (v .plan) 0 ≡ 8
   pub mark : not (eqb (v .marker 0) OK) ≡ false
@@ -105,6 +106,7 @@ ride-says v bytes turns e =
     let h₁₅ = first-past 14 (ltb 18446744073709551615 (amount bytes + turns)) [] (h₈ .1) in
     record {
       plan = h .plan;
+      long = h .long;
       job = ready-only (v .job) (h₅ .0);
       wide = eqb-true _ 8 (not-false _ (h₁₆ .0));
       mark = h₈ .0;
@@ -123,11 +125,17 @@ ride-begins v bytes turns e =
     ∙ first-skip 8 _ [] (r .mark)
     ∙ first-none
 
--- device and ledger judge alike: unit 0's bytes are looked at in Ready only
-pub ride-alike : {v v′ : View} → Alike v v′ → PlanOk (v′ .plan) → {bytes bytes′ : List ℕ} (turns : ℕ) → (v′ .job ≡ ready → bytes ≡ bytes′)
+-- two views judge alike: unit 0's marker and bytes are looked at after 5 only
+pub ride-alike : {v v′ : View} → Alike v v′ → {bytes bytes′ : List ℕ} (turns : ℕ)
+    → (PlanOk (v′ .plan) → v′ .short ≡ false → v′ .job ≡ ready → bytes ≡ bytes′)
     → rideNumber v bytes turns ≡ rideNumber v′ bytes′ turns
 unfolding rideNumber
-ride-alike {v} {v′} a ok {bytes} {bytes′} turns h =
-    rw (a .plan, a .short, a .job, a .marker 0 (count-bounds (v′ .plan) ok .0))
+ride-alike {v} {v′} a {bytes} {bytes′} turns h =
+    rw (a .plan, a .short, a .job)
     (first-from (deviceRow v′ ++ (5 when not (isReady (v′ .job)) ∷ [])) _ _
-    (λ e. rw (h (ready-only (v′ .job) (first-past 4 (not (isReady (v′ .job))) [] (past v′ _ e .more) .0)))))
+    (λ e.
+    let t = past v′ _ e in
+    rw (
+      a .marker 0 (count-bounds (v′ .plan) (t .plan) .0),
+      h (t .plan) (t .long) (ready-only (v′ .job) (first-past 4 (not (isReady (v′ .job))) [] (t .more) .0)),
+    )))

@@ -10,9 +10,9 @@ use borrow.Author.Tests.{eq-eqb, ne-eqb, leb-false, lt-ltb, le-ltb}
 use Rattle.model.specs.declared.Plan.{Plan}
 use Rattle.model.specs.Plans.{width}
 use Rattle.model.specs.Marker.{OK, direction, completed, tornBy, tornBits, torn}
-use Rattle.model.specs.Refusals.{Job, cold, ready, writing, recovering, badCount, badWidths, badJob, first, anyForeign, startNumber, formatNumber, beginNumber, rideNumber, stepNumber, wakeNumber, cutNumber}
+use Rattle.model.specs.Refusals.{Job, cold, ready, writing, recovering, badCount, badWidths, badPage, badJob, first, anyForeign, startNumber, formatNumber, beginNumber, rideNumber, stepNumber, wakeNumber, cutNumber}
 use Rattle.model.specs.Turns.{plus}
-use Rattle.model.specs.Layout.{base, get, put, fresh, formatted}
+use Rattle.model.specs.Layout.{wholePages, base, get, put, putPage, fresh, formatted}
 use Rattle.model.specs.Stores.{copying, writeStores, cleanupStores, stored}
 use Rattle.model.specs.Calls.{Device, Outcome, outcome, asFormatted, asBegun, asWoken, asStepped, asCut, phaseAfter, padded, heldIn, cleanupFrom, imageAfter, counted, mostStores, view}
 use Rattle.model.specs.Calls as calls
@@ -22,7 +22,7 @@ use Rattle.model.specs.PowerCut.{call, run}
 use Rattle.model.specs.Wear.{ifAccepted, overAccepted, completes, tornAt, tears, widest, allows, Worn, WearCeiling}
 use Rattle.model.specs.Edges.{EveryWear}
 use Rattle.model.proofs.Compare.{Order, below, above, order, Same, equal, differ, same}
-use Rattle.model.proofs.RefusalLaws.{PlanOk, false-or, past, step-cold, step-ready, wake-says}
+use Rattle.model.proofs.RefusalLaws.{PlanOk, false-or, past, cut-says, step-cold, step-ready, wake-says}
 use Rattle.model.proofs.Invariant.{Inv}
 use Rattle.model.proofs.Keeps.{keeps}
 use Rattle.model.proofs.Theorem.{accepts, format-opens}
@@ -73,12 +73,12 @@ module _ (p : Plan) (ok : PlanOk p) where
             ])
 
     -- the torn store was one of those left
-    cut-fair : (m : ℕ) → cutNumber (judged p l) ≡ 0 → Fair (cut m)
-    unfolding accepted badJob cutNumber
-    cut-fair m e = go (l .job) (past (judged p l) _ e .job)
+    cut-fair : (bytes : List ℕ) → cutNumber (judged p l) (length bytes) ≡ 0 → Fair (cut bytes)
+    unfolding accepted badJob
+    cut-fair bytes e = go (l .job) (cut-says (judged p l) (length bytes) e .job)
       where
         go : (j : Job) → badJob p j ≡ false
-            → completes l (cut m) + tornAt j + left p (wasCut p l m j .job) ≤ left p j + allows p l (cut m)
+            → completes l (cut bytes) + tornAt j + left p (wasCut p l bytes j .job) ≤ left p j + allows p l (cut bytes)
         go cold b = omega arith
         go ready b = omega arith
         go (writing u n) b =
@@ -101,7 +101,7 @@ module _ (p : Plan) (ok : PlanOk p) where
     fair hu (begin u payload) e = omega arith
     fair hu (ride turns) e = omega arith
     fair hu step e = step-fair e
-    fair hu (cut m) e = cut-fair m e
+    fair hu (cut bytes) e = cut-fair bytes e
     fair hu wake e = wake-fair hu (wake-says (judged p l) e)
 
     -- and one that may be refused
@@ -151,9 +151,9 @@ call-adds step l o k e =
     let image = imageAfter completed (o .device) (o .image) in
     adds (stepNumber (view (o .device) (o .image))) (o .device) (o .image)
     (outcome 0 (asStepped (phaseAfter (o .device .plan) image (o .device .phase)) (o .device)) image) k 1 e refl (ap counted e ∙ counted-min k)
-call-adds (cut m) l o k e =
-    adds (cutNumber (view (o .device) (o .image))) (o .device) (o .image)
-    (outcome 0 (asCut (o .device)) (imageAfter (tornBy m) (o .device) (o .image))) k 0 e refl (omega (arith, e))
+call-adds (cut bytes) l o k e =
+    adds (cutNumber (view (o .device) (o .image)) (length bytes)) (o .device) (o .image)
+    (outcome 0 (asCut (o .device)) (imageAfter (tornBy bytes) (o .device) (o .image))) k 0 e refl (omega (arith, e))
 call-adds wake l o k e =
     adds (wakeNumber (view (o .device) (o .image))) (o .device) (o .image)
     (outcome 0 (asWoken (cleanupFrom (o .device .plan) (o .image) 0) (o .device)) (o .image)) k 0 e refl (omega (arith, e))
@@ -186,5 +186,5 @@ wear-ceiling d image e cs =
 
 -- ---- the rows of specs/Edges.antt, computed
 pub every-wear : EveryWear
-unfolding direction tornBits torn base get put fresh formatted badCount badWidths badJob first startNumber formatNumber wakeNumber stepNumber cutNumber anyForeign beginNumber copying writeStores cleanupStores stored calls.next calls.imageAfter calls.lowestBad calls.phaseAfter calls.counted calls.start calls.format calls.begin calls.step calls.wake calls.cut opening markerOf told writeMarker cleanupMarker saving accepted fed call run overAccepted widest
+unfolding direction tornBits torn wholePages base get put putPage fresh formatted badCount badWidths badPage badJob first startNumber formatNumber wakeNumber stepNumber cutNumber anyForeign beginNumber copying writeStores cleanupStores stored calls.next calls.imageAfter calls.lowestBad calls.phaseAfter calls.counted calls.start calls.format calls.begin calls.step calls.wake calls.cut opening markerOf told writeMarker cleanupMarker saving accepted fed call run overAccepted widest
 every-wear = refl

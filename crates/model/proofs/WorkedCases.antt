@@ -1,8 +1,8 @@
 -- The definitions give every row of the tables of specs/Cases.antt and specs/Edges.antt: antt computes them.
 use mathlib.Core.Path.{refl}
 use Rattle.model.specs.Marker.{direction, tornBits, torn}
-use Rattle.model.specs.Layout.{base, get, put, copyOf, fresh, formatted}
-use Rattle.model.specs.Refusals.{badCount, badWidths, badJob, first, startNumber, formatNumber, wakeNumber, stepNumber, cutNumber, inspectNumber, readNumber, anyForeign, beginNumber}
+use Rattle.model.specs.Layout.{wholePages, base, get, put, putPage, copyOf, fresh, formatted}
+use Rattle.model.specs.Refusals.{badCount, badWidths, badPage, badJob, first, startNumber, formatNumber, wakeNumber, stepNumber, cutNumber, inspectNumber, readNumber, anyForeign, beginNumber}
 use Rattle.model.specs.Stores.{copying, writeStores, cleanupStores, stored}
 use Rattle.model.specs.Calls as calls
 use Rattle.model.specs.Ledger.{opening, markerOf, told, writeMarker, cleanupMarker, saving, accepted, fed, tells, after}
@@ -13,39 +13,39 @@ use Rattle.model.specs.Edges.{EveryRefusal, EveryOutcome, EveryStart, Ev
 
 -- C1 to C12
 pub every-case : EveryCase
-unfolding direction tornBits torn base get put fresh formatted badCount badWidths badJob first startNumber formatNumber wakeNumber stepNumber cutNumber anyForeign beginNumber copying writeStores cleanupStores stored calls.next calls.imageAfter calls.lowestBad calls.phaseAfter calls.start calls.format calls.begin calls.step calls.wake calls.cut opening markerOf told writeMarker cleanupMarker saving accepted fed tells after call run answers driveNumber drive
+unfolding direction tornBits torn wholePages base get put putPage fresh formatted badCount badWidths badPage badJob first startNumber formatNumber wakeNumber stepNumber cutNumber anyForeign beginNumber copying writeStores cleanupStores stored calls.next calls.imageAfter calls.lowestBad calls.phaseAfter calls.start calls.format calls.begin calls.step calls.wake calls.cut opening markerOf told writeMarker cleanupMarker saving accepted fed tells after call run answers driveNumber drive
 every-case = refl
 
 pub every-refusal : EveryRefusal
-unfolding base get badCount badWidths badJob first startNumber formatNumber wakeNumber stepNumber cutNumber inspectNumber readNumber anyForeign beginNumber calls.start calls.format calls.begin calls.step calls.wake calls.cut
+unfolding wholePages base get badCount badWidths badPage badJob first startNumber formatNumber wakeNumber stepNumber cutNumber inspectNumber readNumber anyForeign beginNumber calls.start calls.format calls.begin calls.step calls.wake calls.cut
 every-refusal = refl
 
 pub every-outcome : EveryOutcome
-unfolding direction tornBits torn base get put fresh formatted badCount badWidths badJob first formatNumber wakeNumber stepNumber cutNumber anyForeign beginNumber copying writeStores cleanupStores stored calls.next calls.imageAfter calls.lowestBad calls.phaseAfter calls.counted calls.format calls.begin calls.step calls.wake calls.cut call trace
+unfolding direction tornBits torn wholePages base get put putPage fresh formatted badCount badWidths badPage badJob first formatNumber wakeNumber stepNumber cutNumber anyForeign beginNumber copying writeStores cleanupStores stored calls.next calls.imageAfter calls.lowestBad calls.phaseAfter calls.counted calls.format calls.begin calls.step calls.wake calls.cut call trace
 every-outcome = refl
 
 pub every-start : EveryStart
-unfolding badCount badWidths first startNumber calls.start
+unfolding badCount badWidths badPage first startNumber calls.start
 every-start = refl
 
 pub every-part : EveryPart
-unfolding base get copyOf badCount badWidths badJob first readNumber calls.read
+unfolding wholePages base get copyOf badCount badWidths badPage badJob first readNumber calls.read
 every-part = refl
 
 pub every-entry : EveryEntry
-unfolding tornBits torn badCount badWidths badJob first wakeNumber stepNumber cutNumber anyForeign beginNumber opening markerOf told writeMarker cleanupMarker saving accepted fed after
+unfolding tornBits torn badCount badWidths badPage badJob first wakeNumber stepNumber cutNumber anyForeign beginNumber opening markerOf told writeMarker cleanupMarker saving accepted fed after
 every-entry = refl
 
 pub foreign-told : ForeignTold
-unfolding badCount badWidths badJob first wakeNumber anyForeign beginNumber markerOf told accepted fed tells
+unfolding badCount badWidths badPage badJob first wakeNumber anyForeign beginNumber markerOf told accepted fed tells
 foreign-told = refl
 
 pub every-inspection : EveryInspection
-unfolding base get badCount badWidths badJob first inspectNumber calls.lowestBad calls.inspect
+unfolding wholePages base get badCount badWidths badPage badJob first inspectNumber calls.lowestBad calls.inspect
 every-inspection = refl
 
 pub every-count : EveryCount
-unfolding direction tornBits torn base get put fresh formatted badCount badWidths badJob first startNumber formatNumber wakeNumber stepNumber cutNumber anyForeign beginNumber copying writeStores cleanupStores stored calls.next calls.imageAfter calls.lowestBad calls.phaseAfter calls.counted calls.start calls.format calls.begin calls.step calls.wake calls.cut
+unfolding direction tornBits torn wholePages base get put putPage fresh formatted badCount badWidths badPage badJob first startNumber formatNumber wakeNumber stepNumber cutNumber anyForeign beginNumber copying writeStores cleanupStores stored calls.next calls.imageAfter calls.lowestBad calls.phaseAfter calls.counted calls.start calls.format calls.begin calls.step calls.wake calls.cut
 every-count = refl
 
 pub every-driving : EveryDriving

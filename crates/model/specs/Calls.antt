@@ -137,9 +137,9 @@ phaseAfter p image (Recovering u made d) =
     cond (eqb (suc made) (cleanupTotal (width p u))) (cleanupFrom p image (suc u)) (Recovering u (suc made) d)
 
 -- ---- The calls.
--- "start's refusal returns k = 0, all widths 0, Cold, zero payload"
+-- "start's refusal returns k = 0, all widths 0, Cold, zero payload"; Ticket 9: "p = 1, as in a refused start"
 abbrev pub noPlan : Plan
-noPlan = record { count = 0; widths = replicate 8 0 }
+noPlan = record { count = 0; widths = replicate 8 0; page = 1 }
 
 abbrev pub startAnswer : ℕ → Plan → Answer
 startAnswer zero p = record { number = 0; device = asStarted p }
@@ -179,10 +179,10 @@ unfoldable pub wake : Device → List ℕ → Outcome
 wake d image =
     unlessRefused (wakeNumber (view d image)) d image (outcome 0 (asWoken (cleanupFrom (d .plan) image 0) d) image)
 
--- "in Writing or Recovering it tears the next store; in Cold and Ready it stores nothing"
-unfoldable pub cut : Device → List ℕ → ℕ → Outcome
-cut d image m =
-    unlessRefused (cutNumber (view d image)) d image (outcome 0 (asCut d) (imageAfter (tornBy m) d image))
+-- "in Writing or Recovering it tears the next store; in Cold and Ready it stores nothing"; Ticket 9: "Cut now takes p bytes"
+unfoldable pub cut : Device → List ℕ → List ℕ → Outcome
+cut d image bytes =
+    unlessRefused (cutNumber (view d image) (length bytes)) d image (outcome 0 (asCut d) (imageAfter (tornBy bytes) d image))
 
 -- "the part of the lent image that is copy A, not a copy; an empty part when refused"
 abbrev pub partUnlessRefused : ℕ → List ℕ → List ℕ

@@ -25,8 +25,11 @@ pub data Result : Type 0 where
   -- number and drive
   drives : ℕ → ℕ → Result
 
+abbrev pub paged : ℕ → List ℕ → ℕ → Plan
+paged count widths page = record { count = count; widths = widths; page = page }
+
 abbrev pub planned : ℕ → List ℕ → Plan
-planned count widths = record { count = count; widths = widths }
+planned count widths = paged count widths 1
 
 -- "format over an image of exactly the units' length"; what stood there before is no matter
 abbrev planOf : List ℕ → Plan
@@ -55,9 +58,13 @@ pub record Case : Type 0 where
 abbrev case : Question → Result → Case
 case q r = record { question = q; result = r }
 
+-- "`(cut HH)` is a cut of one byte"
+abbrev pub cutOne : ℕ → Call
+cutOne m = cut (m ∷ [])
+
 -- `(write 0 (0a 0b))`, n steps and a cut, on the plan `(2 1)`; and the same with more calls after it
 abbrev saved : ℕ → ℕ → List Call → Question
-saved n m more = script (2 ∷ 1 ∷ []) (begin 0 (10 ∷ 11 ∷ []) ∷ replicate n step ++ (cut m ∷ more))
+saved n m more = script (2 ∷ 1 ∷ []) (begin 0 (10 ∷ 11 ∷ []) ∷ replicate n step ++ (cutOne m ∷ more))
 
 -- all of n calls are accepted, and unit 1 is left alone
 abbrev leaves : ℕ → List ℕ → List ℕ → Result
@@ -81,7 +88,7 @@ table =
     ∷ case (saved 0 255 repaired) (leaves 6 (1 ∷ 0 ∷ 0 ∷ 0 ∷ 0 ∷ []) (0 ∷ 0 ∷ []))
     -- C5: recovering from marker 6, cut 02 at the last store: 6 becomes 4, copies equal
     ∷ case (saved 3 4 []) (leaves 5 (6 ∷ 10 ∷ 11 ∷ 0 ∷ 0 ∷ []) (10 ∷ 11 ∷ []))
-    ∷ case (saved 3 4 (wake ∷ step ∷ step ∷ cut 2 ∷ [])) (leaves 9 (4 ∷ 10 ∷ 11 ∷ 10 ∷ 11 ∷ []) (10 ∷ 11 ∷ []))
+    ∷ case (saved 3 4 (wake ∷ step ∷ step ∷ cutOne 2 ∷ [])) (leaves 9 (4 ∷ 10 ∷ 11 ∷ 10 ∷ 11 ∷ []) (10 ∷ 11 ∷ []))
     -- C6: a ninth script width gives `plan 1`
     ∷ case (script (replicate 9 1) []) (refused 1)
     -- C7: width 256 passes, 257 is 2

@@ -11,10 +11,10 @@ use Rattle.model.specs.Layout.{copyA, copyOf}
 use Rattle.model.specs.Turns.{amount, inBytes}
 use Rattle.model.specs.Calls.{Device, Outcome, Total, zeroPayload}
 use Rattle.model.specs.Calls as calls
-use Rattle.model.specs.Ledger.{Call, begin, ride, step, cut, wake}
+use Rattle.model.specs.Ledger.{Call, begin, ride, step, wake}
 use Rattle.model.specs.PowerCut.{run, repair}
 use Rattle.model.specs.Totals.{turnsOver}
-use Rattle.model.specs.Cases.{planned}
+use Rattle.model.specs.Cases.{planned, cutOne}
 
 -- ---- "lowest byte first"
 abbrev pub EveryAmount : Type 0
@@ -137,16 +137,16 @@ after turns n more = ride turns ∷ replicate n step ++ more
 abbrev pub tallies : List Ridden
 tallies =
     -- cut before its store w + 2, at it and leaving 2, at it and leaving 6, and after it
-    ridden (after 300 8 (cut 0 ∷ [])) 9 0
-    ∷ ridden (after 300 9 (cut 0 ∷ [])) 9 0
-    ∷ ridden (after 300 9 (cut 4 ∷ [])) 9 300
-    ∷ ridden (after 300 10 (cut 0 ∷ [])) 9 300
+    ridden (after 300 8 (cutOne 0 ∷ [])) 9 0
+    ∷ ridden (after 300 9 (cutOne 0 ∷ [])) 9 0
+    ∷ ridden (after 300 9 (cutOne 4 ∷ [])) 9 300
+    ∷ ridden (after 300 10 (cutOne 0 ∷ [])) 9 300
     -- a ride that passed, a write of unit 1, and one that did not pass; a ride is refused while one is written
-    ∷ ridden (after 300 19 (begin 1 (3 ∷ []) ∷ replicate 5 step ++ after 7 3 (ride 9 ∷ cut 0 ∷ []))) 9 300
+    ∷ ridden (after 300 19 (begin 1 (3 ∷ []) ∷ replicate 5 step ++ after 7 3 (ride 9 ∷ cutOne 0 ∷ []))) 9 300
     -- two rides, the second after a cut and its repair
-    ∷ ridden (after 300 12 (cut 0 ∷ wake ∷ replicate 9 step ++ after 500 19 (cut 0 ∷ []))) 0 800
+    ∷ ridden (after 300 12 (cutOne 0 ∷ wake ∷ replicate 9 step ++ after 500 19 (cutOne 0 ∷ []))) 0 800
     -- a sum of 65 bits is refused, and adds nothing
-    ∷ ridden (after 18446744073709551615 19 (after 1 19 (cut 0 ∷ []))) 0 18446744073709551615
+    ∷ ridden (after 18446744073709551615 19 (after 1 19 (cutOne 0 ∷ []))) 0 18446744073709551615
     ∷ []
 
 abbrev pub EveryTally : Type 0

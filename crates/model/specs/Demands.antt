@@ -20,20 +20,29 @@ use Rattle.model.specs.declared.Phase.{Phase}
 use Rattle.model.specs.declared.Phase.the-variants.{Cold, Ready, Writing, Recovering}
 use Rattle.model.specs.declared.Inspection.{Inspection}
 use Rattle.model.specs.declared.Inspection.the-variants.{Refused, Suspect, AllOk}
-use Rattle.model.specs.Layout.{Copy, copyA, copyB, Cell, marker, byte, width, base, total, place}
+use Rattle.model.specs.Layout.{Copy, copyA, copyB, Cell, marker, byte, width, copyLength, base, total, place}
 use Rattle.model.specs.Refusals.{readNumber, inspectNumber, totalNumber}
 use Rattle.model.specs.Calls.{Device, Answer, Outcome, outcome, view, Total}
 use Rattle.model.specs.Calls as calls
 use Rattle.model.specs.Drive.{driveNumber, drive}
 
--- ---- Where things lie. "Units lie one after another from image byte 0. A unit is its marker, copy A of w bytes, copy B of w
--- bytes: 1 + 2w bytes."; and "all units together".
+-- ---- Where things lie. Ticket 9: "rounded up to whole pages": n bytes are so many pages, which hold w bytes, and one page less
+-- would not.
+pub record Rounded (page w n : ℕ) : Type 0 where
+  pub pages : ℕ
+  pub whole : n ≡ pages * page
+  pub holds : w ≤ n
+  pub least : n < w + page
+
+-- "Units lie one after another from image byte 0. A unit is its marker, copy A of w bytes, copy B of w bytes"; and "all units
+-- together". Ticket 9: "A marker takes a page of its own, in its first byte; each copy is rounded up to whole pages."
 pub record Lies (p : Plan) : Type 0 where
+  pub copies : 0 < p .page → (u : ℕ) → Rounded (p .page) (width p u) (copyLength p u)
   pub first : base p 0 ≡ 0
-  pub next : (u : ℕ) → base p (suc u) ≡ base p u + (1 + 2 * width p u)
+  pub next : (u : ℕ) → base p (suc u) ≡ base p u + (p .page + 2 * copyLength p u)
   pub atMarker : (u : ℕ) → place p u marker ≡ base p u
-  pub atA : (u i : ℕ) → place p u (byte copyA i) ≡ base p u + (1 + i)
-  pub atB : (u i : ℕ) → place p u (byte copyB i) ≡ base p u + (1 + width p u + i)
+  pub atA : (u i : ℕ) → place p u (byte copyA i) ≡ base p u + (p .page + i)
+  pub atB : (u i : ℕ) → place p u (byte copyB i) ≡ base p u + (p .page + copyLength p u + i)
   pub all : total p ≡ base p (p .count)
 
 -- what stands in a cell of the image
@@ -46,11 +55,12 @@ pub record Does (P : Outcome → Type 0) (d : Device) (image : List ℕ) (o : Ou
   pub accepted : o .number ≡ 0 → P o
   pub refused : ¬ (o .number ≡ 0) → o ≡ outcome (o .number) d image
 
--- "start's refusal returns k = 0, all widths 0, Cold, zero payload". Accepted, it "keeps the plan as given".
+-- "start's refusal returns k = 0, all widths 0, Cold, zero payload"; Ticket 9: "p = 1, as in a refused start". Accepted, it "keeps the plan as given".
 pub record Starts (p : Plan) (a : Answer) : Type 0 where
   pub kept : a .number ≡ 0 → a .device .plan ≡ p
   pub count : ¬ (a .number ≡ 0) → a .device .plan .count ≡ 0
   pub widths : ¬ (a .number ≡ 0) → a .device .plan .widths ≡ replicate 8 0
+  pub page : ¬ (a .number ≡ 0) → a .device .plan .page ≡ 1
   pub phase : a .device .phase ≡ Cold
   pub payload : a .device .payload ≡ replicate 256 0
   pub stores : a .device .stores ≡ 0
@@ -63,14 +73,15 @@ pub record OneByte (image image′ : List ℕ) (q x : ℕ) : Type 0 where
   pub changed : getD image′ q 0 ≡ x
   pub others : (i : ℕ) → ¬ (i ≡ q) → getD image′ i 0 ≡ getD image i 0
 
--- "zeros in all units, every marker 1, payload zero, phase Ready"; "Bytes after them are never changed."
+-- "zeros in all units, every marker 1, payload zero, phase Ready"; Ticket 9: "Format sets the filler to zero"; "Bytes after them are
+-- never changed."
 pub record Formats (d : Device) (image : List ℕ) (o : Outcome) : Type 0 where
   pub plan : o .device .plan ≡ d .plan
   pub payload : o .device .payload ≡ replicate 256 0
   pub phase : o .device .phase ≡ Ready
   pub stores : o .device .stores ≡ 0
   pub markers : (u : ℕ) → u < d .plan .count → at (d .plan) (o .image) u marker ≡ 1
-  pub zeros : (u : ℕ) → u < d .plan .count → (c : Copy) (i : ℕ) → i < width (d .plan) u → at (d .plan) (o .image) u (byte c i) ≡ 0
+  pub zeros : (i : ℕ) → i < total (d .plan) → ((u : ℕ) → u < d .plan .count → ¬ (i ≡ base (d .plan) u)) → getD (o .image) i 0 ≡ 0
   pub others : (i : ℕ) → total (d .plan) ≤ i → getD (o .image) i 0 ≡ getD image i 0
   pub size : length (o .image) ≡ length image
 
@@ -176,37 +187,48 @@ unfoldable pub bit : ℕ → ℕ → ℕ
 bit zero x = x % 2
 bit (suc k) x = bit k (x / 2)
 
--- "A torn data byte is m. A torn marker takes each bit from the new code where m has a 1 and from the old marker where m has a 0."
-pub data Torn (m old new : ℕ) : Cell → ℕ → Type 0 where
-  data-byte : (c : Copy) (i : ℕ) → Torn m old new (byte c i) m
-  mixed : (left : ℕ) → left < 256
-      → ((k : ℕ) → k < 8 → bit k left ≡ cond (eqb (bit k m) 1) (bit k new) (bit k old))
-      → Torn m old new marker left
+-- "A torn marker takes each bit from the new code where m has a 1 and from the old marker where m has a 0."
+pub record Mixed (m old new left : ℕ) : Type 0 where
+  pub small : left < 256
+  pub bits : (k : ℕ) → k < 8 → bit k left ≡ cond (eqb (bit k m) 1) (bit k new) (bit k old)
 
--- "in Writing or Recovering it tears the next store"; "No other byte is touched."
-pub record Tears (d : Device) (image : List ℕ) (m : ℕ) (image′ : List ℕ) : Type 0 where
+-- Ticket 9: "one for each byte of the torn page: data and filler become the given byte, a torn marker keeps the bit rule": byte i of
+-- the page around the cell that was to be stored
+pub data Torn (bytes : List ℕ) (old new : ℕ) : Cell → ℕ → ℕ → Type 0 where
+  ofData : (c : Copy) (j i : ℕ) → Torn bytes old new (byte c j) i (getD bytes i 0)
+  ofMarker : (left : ℕ) → Mixed (getD bytes 0 0) old new left → Torn bytes old new marker 0 left
+  byMarker : (i : ℕ) → Torn bytes old new marker (suc i) (getD bytes (suc i) 0)
+
+-- "in Writing or Recovering it tears the next store"; "the page around the byte it is storing": the page number n of the image.
+-- "No other byte is touched."
+pub record Tears (d : Device) (image : List ℕ) (bytes image′ : List ℕ) : Type 0 where
   pub unit : ℕ
   pub cell : Cell
   pub value : ℕ
-  pub left : ℕ
   pub store : NextStore (d .plan) (d .payload) image (d .phase) unit cell value
-  pub torn : Torn m (at (d .plan) image unit cell) value cell left
-  pub changed : OneByte image image′ (place (d .plan) unit cell) left
+  pub n : ℕ
+  pub around : (n * d .plan .page ≤ place (d .plan) unit cell) × (place (d .plan) unit cell < suc n * d .plan .page)
+  pub inside : suc n * d .plan .page ≤ length image
+  pub torn : (i : ℕ) → i < d .plan .page
+      → Torn bytes (at (d .plan) image unit cell) value cell i (getD image′ (n * d .plan .page + i) 0)
+  pub before : (i : ℕ) → i < n * d .plan .page → getD image′ i 0 ≡ getD image i 0
+  pub behind : (i : ℕ) → suc n * d .plan .page ≤ i → getD image′ i 0 ≡ getD image i 0
+  pub size : length image′ ≡ length image
 
 -- "in Cold and Ready it stores nothing"
-abbrev pub CutImage : Phase → Device → List ℕ → ℕ → List ℕ → Type 0
-CutImage Cold d image m image′ = image′ ≡ image
-CutImage Ready d image m image′ = image′ ≡ image
-CutImage (Writing u made) d image m image′ = Tears d image m image′
-CutImage (Recovering u made w) d image m image′ = Tears d image m image′
+abbrev pub CutImage : Phase → Device → List ℕ → List ℕ → List ℕ → Type 0
+CutImage Cold d image bytes image′ = image′ ≡ image
+CutImage Ready d image bytes image′ = image′ ≡ image
+CutImage (Writing u made) d image bytes image′ = Tears d image bytes image′
+CutImage (Recovering u made w) d image bytes image′ = Tears d image bytes image′
 
 -- "The device is then Cold with a zero payload." Ticket 5: "cut keeps the number"
-pub record Cuts (d : Device) (image : List ℕ) (m : ℕ) (o : Outcome) : Type 0 where
+pub record Cuts (d : Device) (image : List ℕ) (bytes : List ℕ) (o : Outcome) : Type 0 where
   pub plan : o .device .plan ≡ d .plan
   pub payload : o .device .payload ≡ replicate 256 0
   pub phase : o .device .phase ≡ Cold
   pub stores : o .device .stores ≡ d .stores
-  pub image′ : CutImage (d .phase) d image m (o .image)
+  pub image′ : CutImage (d .phase) d image bytes (o .image)
 
 -- ---- Looking: neither hands an image back, so neither changes a byte.
 -- "the part of the lent image that is copy A"; "an empty part when refused"
@@ -241,7 +263,7 @@ pub record Demands (d : Device) (image : List ℕ) : Type 0 where
   pub ride : (turns : ℕ) → Does (Rides d image turns) d image (calls.ride d image turns)
   pub step : Does (Steps d image) d image (calls.step d image)
   pub wake : Does (Wakes d image) d image (calls.wake d image)
-  pub cut : (m : ℕ) → Does (Cuts d image m) d image (calls.cut d image m)
+  pub cut : (bytes : List ℕ) → Does (Cuts d image bytes) d image (calls.cut d image bytes)
   pub read : (u : ℕ) → Reads d image u (calls.read d image u)
   pub total : (u : ℕ) → Totals d image u (calls.totalOf d image u)
   pub inspect : Inspects d image (calls.inspect d image)

@@ -14,10 +14,10 @@ use Rattle.model.specs.declared.Plan.{Plan}
 use Rattle.model.specs.Refusals.{Job, cold, ready, writing, recovering, readNumber, inspectNumber}
 use Rattle.model.specs.Calls.{Device, Answer, Outcome, outcome, view, zeroPayload}
 use Rattle.model.specs.Calls as calls
-use Rattle.model.specs.Ledger.{Call, begin, step, cut, wake, Ledger, opening, tells, after}
+use Rattle.model.specs.Ledger.{Call, begin, step, wake, Ledger, opening, tells, after}
 use Rattle.model.specs.PowerCut.{call, run}
 use Rattle.model.specs.Wear.{completedIn, tornIn, ceiling}
-use Rattle.model.specs.Cases.{planned}
+use Rattle.model.specs.Cases.{planned, cutOne}
 use Rattle.model.specs.Drive.{driveNumber, drive}
 
 -- ---- Refusals. A row has a situation, in which whatever a later row mends is still wrong, and the number of each call there.
@@ -45,7 +45,7 @@ numbersIn s =
       format = calls.format (s .device) (s .image) .number;
       wake = calls.wake (s .device) (s .image) .number;
       step = calls.step (s .device) (s .image) .number;
-      cut = calls.cut (s .device) (s .image) 0 .number;
+      cut = calls.cut (s .device) (s .image) (0 ∷ []) .number;
       inspect = inspectNumber (view (s .device) (s .image));
       read = readNumber (view (s .device) (s .image)) (s .unit);
       begin = calls.begin (s .device) (s .image) (s .unit) (s .payload) .number;
@@ -214,15 +214,15 @@ outcomes =
     ∷ gives Ready held (1 ∷ 5 ∷ 6 ∷ 5 ∷ 6 ∷ []) fresh1
     ∷ [])
     -- a cut: a torn marker bit by bit, a torn data byte as given; then Cold with a zero payload
-    ∷ one (call (cut 253) (wrote 0 (0 ∷ 1 ∷ 2 ∷ 3 ∷ 4 ∷ []))) (gives Cold zeroPayload (0 ∷ 1 ∷ 2 ∷ 3 ∷ 4 ∷ []) fresh1)
-    ∷ one (call (cut 2) (wrote 0 (193 ∷ 1 ∷ 2 ∷ 3 ∷ 4 ∷ []))) (gives Cold zeroPayload (195 ∷ 1 ∷ 2 ∷ 3 ∷ 4 ∷ []) fresh1)
-    ∷ one (call (cut 77) (wrote 2 (2 ∷ 1 ∷ 2 ∷ 3 ∷ 4 ∷ []))) (gives Cold zeroPayload (2 ∷ 1 ∷ 77 ∷ 3 ∷ 4 ∷ []) fresh1)
-    ∷ one (call (cut 77) (wrote 4 (4 ∷ 1 ∷ 2 ∷ 3 ∷ 4 ∷ []))) (gives Cold zeroPayload (4 ∷ 1 ∷ 2 ∷ 77 ∷ 4 ∷ []) fresh1)
-    ∷ one (call (cut 77) (cleaning (Recovering 0 1 BToA) (2 ∷ 1 ∷ 2 ∷ 3 ∷ 4 ∷ []) fresh1))
+    ∷ one (call (cutOne 253) (wrote 0 (0 ∷ 1 ∷ 2 ∷ 3 ∷ 4 ∷ []))) (gives Cold zeroPayload (0 ∷ 1 ∷ 2 ∷ 3 ∷ 4 ∷ []) fresh1)
+    ∷ one (call (cutOne 2) (wrote 0 (193 ∷ 1 ∷ 2 ∷ 3 ∷ 4 ∷ []))) (gives Cold zeroPayload (195 ∷ 1 ∷ 2 ∷ 3 ∷ 4 ∷ []) fresh1)
+    ∷ one (call (cutOne 77) (wrote 2 (2 ∷ 1 ∷ 2 ∷ 3 ∷ 4 ∷ []))) (gives Cold zeroPayload (2 ∷ 1 ∷ 77 ∷ 3 ∷ 4 ∷ []) fresh1)
+    ∷ one (call (cutOne 77) (wrote 4 (4 ∷ 1 ∷ 2 ∷ 3 ∷ 4 ∷ []))) (gives Cold zeroPayload (4 ∷ 1 ∷ 2 ∷ 77 ∷ 4 ∷ []) fresh1)
+    ∷ one (call (cutOne 77) (cleaning (Recovering 0 1 BToA) (2 ∷ 1 ∷ 2 ∷ 3 ∷ 4 ∷ []) fresh1))
     (gives Cold zeroPayload (2 ∷ 1 ∷ 77 ∷ 3 ∷ 4 ∷ []) fresh1)
     -- .. in Cold and Ready it stores nothing
-    ∷ one (call (cut 77) (gives Ready held fresh0 fresh1)) (gives Cold zeroPayload fresh0 fresh1)
-    ∷ one (call (cut 77) (gives Cold held fresh0 fresh1)) (gives Cold zeroPayload fresh0 fresh1)
+    ∷ one (call (cutOne 77) (gives Ready held fresh0 fresh1)) (gives Cold zeroPayload fresh0 fresh1)
+    ∷ one (call (cutOne 77) (gives Cold held fresh0 fresh1)) (gives Cold zeroPayload fresh0 fresh1)
     -- two bad units, the lower one first: X copies A to B, A copies B to A
     ∷ one (call wake (gives Cold held (7 ∷ 1 ∷ 2 ∷ 3 ∷ 4 ∷ []) (2 ∷ 5 ∷ 6 ∷ [])))
     (cleaning (Recovering 0 0 AToB) (7 ∷ 1 ∷ 2 ∷ 3 ∷ 4 ∷ []) (2 ∷ 5 ∷ 6 ∷ []))
@@ -312,18 +312,18 @@ entries =
     ∷ notes (wake ∷ begin 1 [] ∷ step ∷ []) (entry ready (replicate 256 0) 0 1 (0 ∷ []))
     ∷ notes (write3 ∷ []) (entry (writing 1 0) (3 ∷ []) 0 1 (0 ∷ []))
     -- a torn store counts
-    ∷ notes (write3 ∷ cut 0 ∷ []) (entry cold (3 ∷ []) 1 1 (0 ∷ []))
-    ∷ notes (write3 ∷ cut 255 ∷ []) (entry cold (3 ∷ []) 1 2 (0 ∷ []))
+    ∷ notes (write3 ∷ cutOne 0 ∷ []) (entry cold (3 ∷ []) 1 1 (0 ∷ []))
+    ∷ notes (write3 ∷ cutOne 255 ∷ []) (entry cold (3 ∷ []) 1 2 (0 ∷ []))
     -- store w + 2 torn, leaving 2 and leaving 6
-    ∷ notes (write3 ∷ step ∷ step ∷ cut 0 ∷ []) (entry cold (3 ∷ []) 1 2 (0 ∷ []))
-    ∷ notes (write3 ∷ step ∷ step ∷ cut 4 ∷ []) (entry cold (3 ∷ []) 1 6 (3 ∷ []))
+    ∷ notes (write3 ∷ step ∷ step ∷ cutOne 0 ∷ []) (entry cold (3 ∷ []) 1 2 (0 ∷ []))
+    ∷ notes (write3 ∷ step ∷ step ∷ cutOne 4 ∷ []) (entry cold (3 ∷ []) 1 6 (3 ∷ []))
     ∷ notes (write3 ∷ step ∷ step ∷ step ∷ []) (entry (writing 1 3) (3 ∷ []) 1 4 (3 ∷ []))
     ∷ notes (write3 ∷ step ∷ step ∷ step ∷ step ∷ step ∷ []) (entry ready (3 ∷ []) 1 1 (3 ∷ []))
-    ∷ notes (write3 ∷ step ∷ cut 0 ∷ wake ∷ []) (entry (recovering 1 0) (3 ∷ []) 1 2 (0 ∷ []))
-    ∷ notes (write3 ∷ step ∷ cut 0 ∷ wake ∷ step ∷ step ∷ []) (entry ready (3 ∷ []) 1 1 (0 ∷ []))
+    ∷ notes (write3 ∷ step ∷ cutOne 0 ∷ wake ∷ []) (entry (recovering 1 0) (3 ∷ []) 1 2 (0 ∷ []))
+    ∷ notes (write3 ∷ step ∷ cutOne 0 ∷ wake ∷ step ∷ step ∷ []) (entry ready (3 ∷ []) 1 1 (0 ∷ []))
     -- Ticket 4: 7, the highest marker that a list leaves, is no foreign one
-    ∷ notes (write3 ∷ step ∷ step ∷ cut 4 ∷ wake ∷ step ∷ cut 1 ∷ []) (entry cold (3 ∷ []) 1 7 (3 ∷ []))
-    ∷ notes (write3 ∷ step ∷ step ∷ cut 4 ∷ wake ∷ step ∷ cut 1 ∷ wake ∷ []) (entry (recovering 1 0) (3 ∷ []) 1 7 (3 ∷ []))
+    ∷ notes (write3 ∷ step ∷ step ∷ cutOne 4 ∷ wake ∷ step ∷ cutOne 1 ∷ []) (entry cold (3 ∷ []) 1 7 (3 ∷ []))
+    ∷ notes (write3 ∷ step ∷ step ∷ cutOne 4 ∷ wake ∷ step ∷ cutOne 1 ∷ wake ∷ []) (entry (recovering 1 0) (3 ∷ []) 1 7 (3 ∷ []))
     ∷ []
 
 abbrev pub EveryEntry : Type 0
@@ -395,7 +395,7 @@ counts =
     -- a step, one that is refused, and a torn store
     ∷ count (calls.step (busy 7) torn0 .device) 8
     ∷ count (calls.step (counting 7 Ready held) good .device) 7
-    ∷ count (calls.cut (busy 7) torn0 255 .device) 7
+    ∷ count (calls.cut (busy 7) torn0 (255 ∷ []) .device) 7
     -- at the top it holds
     ∷ count (calls.step (busy 4294967294) torn0 .device) 4294967295
     ∷ count (calls.step (busy 4294967295) torn0 .device) 4294967295
@@ -435,12 +435,12 @@ wearings =
     ∷ wearing (begin 1 (3 ∷ []) ∷ replicate 5 step) 5 5 0 5
     -- a save that is cut at its last store, and its repair; and one whose repair is cut at its last store as well. With the torn
     -- stores counted in, they meet the ceiling.
-    ∷ wearing (save0 6 (cut 0 ∷ wake ∷ step ∷ step ∷ step ∷ [])) 9 9 1 10
-    ∷ wearing (save0 6 (cut 0 ∷ wake ∷ step ∷ step ∷ cut 0 ∷ wake ∷ step ∷ step ∷ step ∷ [])) 11 11 2 13
+    ∷ wearing (save0 6 (cutOne 0 ∷ wake ∷ step ∷ step ∷ step ∷ [])) 9 9 1 10
+    ∷ wearing (save0 6 (cutOne 0 ∷ wake ∷ step ∷ step ∷ cutOne 0 ∷ wake ∷ step ∷ step ∷ step ∷ [])) 11 11 2 13
     -- a cut of a unit that isn't the widest
-    ∷ wearing (begin 1 (3 ∷ []) ∷ step ∷ step ∷ step ∷ step ∷ cut 0 ∷ wake ∷ step ∷ step ∷ []) 6 6 1 8
+    ∷ wearing (begin 1 (3 ∷ []) ∷ step ∷ step ∷ step ∷ step ∷ cutOne 0 ∷ wake ∷ step ∷ step ∷ []) 6 6 1 8
     -- cuts that tear nothing, and calls that are refused
-    ∷ wearing (cut 0 ∷ cut 0 ∷ wake ∷ []) 0 0 0 6
+    ∷ wearing (cutOne 0 ∷ cutOne 0 ∷ wake ∷ []) 0 0 0 6
     ∷ wearing (begin 2 [] ∷ begin 0 [] ∷ step ∷ wake ∷ []) 0 0 0 0
     ∷ []
 

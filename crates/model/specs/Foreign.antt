@@ -15,6 +15,6 @@ abbrev pub NeverForeign : Type 0
 NeverForeign =
     (d : Device) (image : List ℕ)
     → calls.format d image .number ≡ 0
-    → (cs : List Call) (m n : ℕ)
+    → (cs : List Call) (bytes : List ℕ) (n : ℕ)
     → (u : ℕ) → u < d .plan .count
-    → get (d .plan) (run (take n (closedBy m cs)) (calls.format d image) .image) u marker ≤ 7
+    → get (d .plan) (run (take n (closedBy bytes cs)) (calls.format d image) .image) u marker ≤ 7

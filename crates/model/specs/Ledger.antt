@@ -16,7 +16,7 @@ pub data Call : Type 0 where
   begin : ℕ → List ℕ → Call
   ride : ℕ → Call
   step : Call
-  cut : ℕ → Call
+  cut : List ℕ → Call
   wake : Call
 
 -- "It keeps a phase (as above, without direction), the payload, the unit last written (a torn store counts) with its marker,
@@ -52,7 +52,7 @@ unfoldable pub told : Plan → Ledger → Call → ℕ
 told p l (begin u payload) = beginNumber (judged p l) u (length payload)
 told p l (ride turns) = rideNumber (judged p l) (l .saved 0) turns
 told p l step = stepNumber (judged p l)
-told p l (cut m) = cutNumber (judged p l)
+told p l (cut bytes) = cutNumber (judged p l) (length bytes)
 told p l wake = wakeNumber (judged p l)
 
 -- "Writing: marker 2 after store 1, 4 after store w + 2, 1 .. after store 2w + 3": the marker after store n of a write, which
@@ -70,7 +70,7 @@ cleanupMarker w n e old = cond (eqb n (w + 1)) (markerLeft e old OK) old
 -- "A write passes when its store w + 2 is completed or is torn leaving a byte other than 2." The term is the document's own.
 abbrev pub passes : ℕ → ℕ → End → ℕ → Bool
 passes w n completed left = eqb n (w + 2)
-passes w n (tornBy m) left = eqb n (w + 2) && not (eqb left A)
+passes w n (tornBy bytes) left = eqb n (w + 2) && not (eqb left A)
 
 -- "makes its payload the unit's saved bytes at that store"
 unfoldable pub saving : ℕ → List ℕ → (ℕ → List ℕ) → ℕ → List ℕ
@@ -117,11 +117,11 @@ stepped p l (recovering u made) =
     cleaned p l u (suc made) completed (cond (eqb (suc made) (width p u + 1)) ready (recovering u (suc made)))
 
 -- "Cut: if the next store is the marker's, the marker becomes the torn byte of the rule above. Then Cold, in every phase."
-abbrev pub wasCut : Plan → Ledger → ℕ → Job → Ledger
-wasCut p l m cold = noted l cold (l .payload)
-wasCut p l m ready = noted l cold (l .payload)
-wasCut p l m (writing u made) = wrote p l u (suc made) (tornBy m) cold
-wasCut p l m (recovering u made) = cleaned p l u (suc made) (tornBy m) cold
+abbrev pub wasCut : Plan → Ledger → List ℕ → Job → Ledger
+wasCut p l bytes cold = noted l cold (l .payload)
+wasCut p l bytes ready = noted l cold (l .payload)
+wasCut p l bytes (writing u made) = wrote p l u (suc made) (tornBy bytes) cold
+wasCut p l bytes (recovering u made) = cleaned p l u (suc made) (tornBy bytes) cold
 
 -- "Begin: Writing that unit, 0 made, payload noted." A ride begins a write of unit 0.
 -- "Wake: Ready if the marker is 1, otherwise Recovering the unit last written, 0 made."
@@ -129,7 +129,7 @@ unfoldable pub accepted : Plan → Ledger → Call → Ledger
 accepted p l (begin u payload) = noted l (writing u 0) payload
 accepted p l (ride turns) = noted l (writing 0 0) (plus (l .saved 0) turns)
 accepted p l step = stepped p l (l .job)
-accepted p l (cut m) = wasCut p l m (l .job)
+accepted p l (cut bytes) = wasCut p l bytes (l .job)
 accepted p l wake = noted l (cond (eqb (l .marker) OK) ready (recovering (l .unit) 0)) (l .payload)
 
 -- "A call that 'Refusals' refuses .. changes nothing."

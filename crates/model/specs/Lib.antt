@@ -11,11 +11,14 @@ pub mod PowerCut
 pub mod Restart
 pub mod Steps
 pub mod Foreign
+pub mod PageOne
+pub mod Filler
 pub mod Wear
 pub mod Totals
 pub mod Drive
 pub mod Cases
 pub mod Edges
 pub mod CasesOfRides
+pub mod CasesOfPages
 pub mod Demands
 pub mod Refuses

@@ -1,7 +1,9 @@
 -- Document 01, 'Marker byte', and what a power cut leaves of a marker ('Stores, in order').
 use Prim.Native.Nat.{ℕ, zero, suc, _+_, _*_, _/_, _%_}
 use mathlib.Core.Bool.{Bool, cond}
+use mathlib.Core.List.{List}
 use lib.Dec.{eqb, leb}
+use lib.ListN.{getD}
 use Rattle.model.specs.declared.Direction.{Direction}
 use Rattle.model.specs.declared.Direction.the-variants.{AToB, BToA}
 
@@ -37,12 +39,12 @@ tornBits (suc n) old new m =
 unfoldable pub torn : ℕ → ℕ → ℕ → ℕ
 torn old new m = tornBits 8 old new m
 
--- A store is completed, or a cut with byte m tears it.
+-- A store is completed, or a cut tears it. Ticket 9: "Cut now takes p bytes, one for each byte of the torn page"
 pub data End : Type 0 where
   completed : End
-  tornBy : ℕ → End
+  tornBy : List ℕ → End
 
--- what is left of a marker when a code is stored over it
+-- what is left of a marker when a code is stored over it; it is its page's first byte
 abbrev pub markerLeft : End → ℕ → ℕ → ℕ
 markerLeft completed old code = code
-markerLeft (tornBy m) old code = torn old code m
+markerLeft (tornBy bytes) old code = torn old code (getD bytes 0 0)

@@ -1,6 +1,6 @@
 -- Document 01, 'Plan and image': what a plan says of its units, and what can be wrong with it.
 use Prim.Native.Nat.{ℕ, zero, suc}
-use mathlib.Core.Bool.{Bool, false, _||_}
+use mathlib.Core.Bool.{Bool, false, not, _||_}
 use lib.Dec.{eqb, ltb}
 use lib.ListN.{getD}
 use Rattle.model.specs.declared.Plan.{Plan}
@@ -17,3 +17,14 @@ badCount p = eqb (p .count) 0 || ltb 8 (p .count)
 unfoldable pub badWidths : Plan → ℕ → Bool
 badWidths p zero = false
 badWidths p (suc k) = badWidths p k || (eqb (width p k) 0 || ltb 256 (width p k))
+
+-- Ticket 9: "A plan gains a page size p: 1, 4, 8 or 16."
+pub data PageSize : ℕ → Type 0 where
+  one : PageSize 1
+  four : PageSize 4
+  eight : PageSize 8
+  sixteen : PageSize 16
+
+-- "17 for another page size"
+unfoldable pub badPage : Plan → Bool
+badPage p = not (eqb (p .page) 1 || (eqb (p .page) 4 || (eqb (p .page) 8 || eqb (p .page) 16)))

@@ -1,7 +1,7 @@
 -- THE POWER-CUT THEOREM, demand 3 of document 01, as one statement. It is proved in proofs/Theorem.antt.
 --
--- Format a device. Then let anything happen: begins of any unit with any payload, rides, steps, power cuts that leave any byte, wakes,
--- in any order, calls that are refused among them; and at last one more cut. Then one wake and an exact number of steps bring
+-- Format a device. Then let anything happen: begins of any unit with any payload, rides, steps, power cuts that leave any bytes in a
+-- page, wakes, in any order, calls that are refused among them; and at last one more cut, which is accepted. Then one wake and an exact number of steps bring
 -- every marker to OK and both copies of every unit to the payload of its last write that passed.
 use Prim.Native.Nat.{ℕ, _+_, _≤_, _<_}
 use mathlib.Core.Path.{_≡_}
@@ -20,7 +20,7 @@ unfoldable pub call : Call → Outcome → Outcome
 call (begin u payload) o = calls.begin (o .device) (o .image) u payload
 call (ride turns) o = calls.ride (o .device) (o .image) turns
 call step o = calls.step (o .device) (o .image)
-call (cut m) o = calls.cut (o .device) (o .image) m
+call (cut bytes) o = calls.cut (o .device) (o .image) bytes
 call wake o = calls.wake (o .device) (o .image)
 
 unfoldable pub run : List Call → Outcome → Outcome
@@ -31,9 +31,9 @@ unfoldable pub answers : List Call → Outcome → List ℕ
 answers [] o = []
 answers (c ∷ cs) o = call c o .number ∷ answers cs (call c o)
 
--- a list closed by a cut with byte m
-abbrev pub closedBy : ℕ → List Call → List Call
-closedBy m cs = cs ++ (cut m ∷ [])
+-- a list closed by a cut with these bytes
+abbrev pub closedBy : List ℕ → List Call → List Call
+closedBy bytes cs = cs ++ (cut bytes ∷ [])
 
 -- one wake, and then n steps
 abbrev pub repair : ℕ → List Call
@@ -66,18 +66,23 @@ pub record Repaired (p : Plan) (before : List ℕ) (saved : ℕ → List ℕ) (c
   pub size : length (run (repair steps) cutOff .image) ≡ length before
 
 -- ---- After the format that gave f: every list of calls that a cut closes.
-pub record Survives (p : Plan) (before : List ℕ) (f : Outcome) (m : ℕ) (cs : List Call) : Type 0 where
+pub record Survives (p : Plan) (before : List ℕ) (f : Outcome) (bytes : List ℕ) (cs : List Call) : Type 0 where
   -- each call answers what the ledger tells: the refusal's number, or 0
-  pub answered : answers (closedBy m cs) f ≡ tells p (opening p) (closedBy m cs)
-  pub repaired : Repaired p before (after p (opening p) (closedBy m cs) .saved) (run (closedBy m cs) f)
+  pub answered : answers (closedBy bytes cs) f ≡ tells p (opening p) (closedBy bytes cs)
+  pub repaired : Repaired p before (after p (opening p) (closedBy bytes cs) .saved) (run (closedBy bytes cs) f)
+
+-- Ticket 9: "Every claim's closing cut is now an accepted one": a cut with these bytes is, where the list from f ends
+abbrev pub Closes : List ℕ → List Call → Outcome → Type 0
+Closes bytes cs f = call (cut bytes) (run cs f) .number ≡ 0
 
 -- "A formatted device is the Ready device that an accepted format returns, with the image it leaves."
 abbrev pub PowerCut : Type 0
 PowerCut =
     (d : Device) (image : List ℕ)
     → calls.format d image .number ≡ 0
-    → (cs : List Call) (m : ℕ)
-    → Survives (d .plan) image (calls.format d image) m cs
+    → (cs : List Call) (bytes : List ℕ)
+    → Closes bytes cs (calls.format d image)
+    → Survives (d .plan) image (calls.format d image) bytes cs
 
 -- The same from start: whatever plan start accepts, and whatever image is long enough for it, format accepts.
 abbrev pub PowerCutFromStart : Type 0
@@ -86,4 +91,16 @@ PowerCutFromStart =
     → calls.start p .number ≡ 0
     → total p ≤ length image
     → (calls.format (calls.start p .device) image .number ≡ 0)
-    × ((cs : List Call) (m : ℕ) → Survives p image (calls.format (calls.start p .device) image) m cs)
+    × ((cs : List Call) (bytes : List ℕ)
+    → Closes bytes cs (calls.format (calls.start p .device) image)
+    → Survives p image (calls.format (calls.start p .device) image) bytes cs)
+
+-- Such a closing cut there is after every list, whichever of the four sizes a page has: the cuts that are accepted are those of as
+-- many bytes as a page has.
+abbrev pub CutAccepted : Type 0
+CutAccepted =
+    (d : Device) (image : List ℕ)
+    → calls.format d image .number ≡ 0
+    → (cs : List Call) (bytes : List ℕ)
+    → (length bytes ≡ d .plan .page → Closes bytes cs (calls.format d image))
+    × (Closes bytes cs (calls.format d image) → length bytes ≡ d .plan .page)

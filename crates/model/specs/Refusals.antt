@@ -6,8 +6,8 @@ use mathlib.Core.List.{List, [], _∷_, _++_}
 use mathlib.Core.Bool.{Bool, true, false, cond, not, _||_}
 use lib.Dec.{eqb, ltb, leb}
 use Rattle.model.specs.declared.Plan.{Plan}
-pub use Rattle.model.specs.Numbers.{BAD-COUNT, BAD-WIDTH, SHORT-IMAGE, BAD-JOB, WRONG-PHASE, NO-UNIT, WRONG-SIZE, BAD-MARKER, FOREIGN-MARKER, SUM-TOO-LARGE, NO-TOTAL}
-unfoldable pub use Rattle.model.specs.Plans.{badCount, badWidths}
+pub use Rattle.model.specs.Numbers.{BAD-COUNT, BAD-WIDTH, SHORT-IMAGE, BAD-JOB, WRONG-PHASE, NO-UNIT, WRONG-SIZE, BAD-MARKER, FOREIGN-MARKER, SUM-TOO-LARGE, NO-TOTAL, BAD-PAGE, WRONG-TEAR}
+unfoldable pub use Rattle.model.specs.Plans.{badCount, badWidths, badPage}
 use Rattle.model.specs.Plans.{width}
 use Rattle.model.specs.Marker.{OK, isForeign}
 use Rattle.model.specs.Turns.{amount}
@@ -60,16 +60,17 @@ infix 68 _when_
 abbrev pub _when_ : ℕ → Bool → Refusal
 _when_ n t = record { number = n; holds = t }
 
--- "The lowest number that applies is given": each row of the table rises, so that is the first that holds. 0 if none does.
+-- "The lowest number that applies is given": each row stands in the order in which it is tested, so that is the first that holds.
+-- Document 01's numbers rise in it; a ticket says after which its own are tested. 0 if none holds.
 unfoldable pub first : List Refusal → ℕ
 first [] = 0
 first (r ∷ rest) = cond (r .holds) (r .number) (first rest)
 
--- "The plan's author (start and every device call)"
+-- "The plan's author (start and every device call)"; Ticket 9: "17 for another page size, tested after 2"
 abbrev pub planRow : Plan → List Refusal
-planRow p = BAD-COUNT when badCount p ∷ BAD-WIDTH when badWidths p (p .count) ∷ []
+planRow p = BAD-COUNT when badCount p ∷ BAD-WIDTH when badWidths p (p .count) ∷ BAD-PAGE when badPage p ∷ []
 
--- what every device call refuses: the plan's two, "3 image too short", and 4
+-- what every device call refuses: the plan's, "3 image too short", and 4
 abbrev pub firstFour : Plan → Bool → Job → List Refusal
 firstFour p short j = planRow p ++ (SHORT-IMAGE when short ∷ BAD-JOB when badJob p j ∷ [])
 
@@ -96,8 +97,9 @@ wakeNumber v =
 unfoldable pub stepNumber : View → ℕ
 stepNumber v = first (deviceRow v ++ (WRONG-PHASE when (isCold (v .job) || isReady (v .job)) ∷ []))
 
-unfoldable pub cutNumber : View → ℕ
-cutNumber v = first (deviceRow v)
+-- Ticket 9: "18 for a cut of other than p bytes, tested after 4"
+unfoldable pub cutNumber : View → ℕ → ℕ
+cutNumber v size = first (deviceRow v ++ (WRONG-TEAR when not (eqb size (v .plan .page)) ∷ []))
 
 unfoldable pub inspectNumber : View → ℕ
 inspectNumber v = first (deviceRow v)

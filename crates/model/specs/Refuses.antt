@@ -1,6 +1,6 @@
 -- WHEN A CALL IS REFUSED, and by which number: document 01, 'Refusals', as conditions on the plan, the device, the image and the
--- call's arguments. It is proved in proofs/Refuses.antt that each call answers the lowest number whose condition holds, and 0
--- exactly if none does. What a refused call leaves is in specs/Demands.antt.
+-- call's arguments. It is proved in proofs/Refuses.antt that each call answers the number that is tested first of those whose
+-- condition holds, and 0 exactly if none does. What a refused call leaves is in specs/Demands.antt.
 use Prim.Native.Nat.{ℕ, _+_, _*_, _≤_, _<_}
 use mathlib.Core.Bool.{cond}
 use lib.Dec.{eqb}
@@ -21,16 +21,21 @@ pub record First (order : ℕ → ℕ) (Applies : ℕ → Type 0) (n : ℕ) : Ty
   pub given : ¬ (n ≡ 0) → Applies n
   pub first : (k : ℕ) → Applies k → (1 ≤ order n) × (order n ≤ order k)
 
--- "0 is accepted. The lowest number that applies is given."
-abbrev pub Lowest : (ℕ → Type 0) → ℕ → Type 0
-Lowest Applies n = First (λ k. k) Applies n
+-- "0 is accepted. The lowest number that applies is given." Ticket 9: "17 for another page size, tested after 2; 18 for a cut of other
+-- than p bytes, tested after 4". So they stand between 20 and 30, and between 40 and 50.
+abbrev pub refusalOrder : ℕ → ℕ
+refusalOrder n = cond (eqb n 17) 25 (cond (eqb n 18) 45 (10 * n))
 
--- "The plan's author": 1 and 2
+abbrev pub Lowest : (ℕ → Type 0) → ℕ → Type 0
+Lowest Applies n = First refusalOrder Applies n
+
+-- "The plan's author": 1 and 2, and another page size
 pub data BadPlan (p : Plan) : ℕ → Type 0 where
   noUnit : p .count ≡ 0 → BadPlan p 1
   manyUnits : 8 < p .count → BadPlan p 1
   noWidth : (u : ℕ) → u < p .count → width p u ≡ 0 → BadPlan p 2
   wide : (u : ℕ) → u < p .count → 256 < width p u → BadPlan p 2
+  otherPage : ¬ (p .page ≡ 1) → ¬ (p .page ≡ 4) → ¬ (p .page ≡ 8) → ¬ (p .page ≡ 16) → BadPlan p 17
 
 -- "The firmware": 3 and 4, which every call with an image has
 pub data BadDevice (d : Device) (image : List ℕ) : ℕ → Type 0 where
@@ -43,6 +48,11 @@ pub data BadDevice (d : Device) (image : List ℕ) : ℕ → Type 0 where
       → BadDevice d image 4
   cleaningMade : (u made : ℕ) (way : Direction) → d .phase ≡ Recovering u made way → width (d .plan) u + 1 ≤ made
       → BadDevice d image 4
+
+-- "18 for a cut of other than p bytes"
+pub data BadCut (d : Device) (image : List ℕ) (bytes : List ℕ) : ℕ → Type 0 where
+  device : {n : ℕ} → BadDevice d image n → BadCut d image bytes n
+  otherSize : ¬ (length bytes ≡ d .plan .page) → BadCut d image bytes 18
 
 -- "5 wrong phase": format outside Cold
 pub data BadFormat (d : Device) (image : List ℕ) : ℕ → Type 0 where
@@ -81,16 +91,15 @@ pub data BadRide (d : Device) (image : List ℕ) (turns : ℕ) : ℕ → Type 0 
   mark : ¬ (at (d .plan) image 0 marker ≡ 1) → BadRide d image turns 8
   large : 18446744073709551616 ≤ held (d .plan) image 0 + turns → BadRide d image turns 15
 
--- so 1 to 5, 16, 8, 15
 abbrev pub rideOrder : ℕ → ℕ
-rideOrder n = cond (eqb n 16) 6 (cond (eqb n 8) 7 (cond (eqb n 15) 8 n))
+rideOrder n = cond (eqb n 16) 55 (refusalOrder n)
 
 -- a unit's total as a number: refused as read is, and last where the unit is not eight bytes wide
 pub data BadTotal (d : Device) (image : List ℕ) (u : ℕ) : ℕ → Type 0 where
   asRead : {n : ℕ} → BadRead d image u n → BadTotal d image u n
   otherWidth : ¬ (width (d .plan) u ≡ 8) → BadTotal d image u 16
 
--- ---- Every call's number, of every device, image and argument. "Cut and inspect give 1 to 4."
+-- ---- Every call's number, of every device, image and argument. "Cut and inspect give 1 to 4.", and a cut 18.
 pub record Refuses (d : Device) (image : List ℕ) : Type 0 where
   pub start : Lowest (BadPlan (d .plan)) (calls.start (d .plan) .number)
   pub format : Lowest (BadFormat d image) (calls.format d image .number)
@@ -98,7 +107,7 @@ pub record Refuses (d : Device) (image : List ℕ) : Type 0 where
   pub ride : (turns : ℕ) → First rideOrder (BadRide d image turns) (calls.ride d image turns .number)
   pub step : Lowest (BadStep d image) (calls.step d image .number)
   pub wake : Lowest (BadWake d image) (calls.wake d image .number)
-  pub cut : (m : ℕ) → Lowest (BadDevice d image) (calls.cut d image m .number)
+  pub cut : (bytes : List ℕ) → Lowest (BadCut d image bytes) (calls.cut d image bytes .number)
   pub read : (u : ℕ) → Lowest (BadRead d image u) (readNumber (view d image) u)
   pub total : (u : ℕ) → Lowest (BadTotal d image u) (totalNumber (view d image) u)
   pub inspect : Lowest (BadDevice d image) (inspectNumber (view d image))

@@ -2,12 +2,12 @@
 use Prim.Native.Nat.{ℕ, zero, suc}
 use mathlib.Core.List.{List, [], _∷_, _++_}
 use mathlib.Core.Option.{Option, none, some}
-use lib.ListN.{getD}
+use lib.ListN.{getD, drop}
 use Rattle.model.specs.declared.Plan.{Plan}
 use Rattle.model.specs.declared.Direction.{Direction}
 use Rattle.model.specs.declared.Direction.the-variants.{AToB, BToA}
 use Rattle.model.specs.Marker.{OK, A, B, torn, End, completed, tornBy}
-use Rattle.model.specs.Layout.{Copy, copyA, copyB, Cell, marker, byte, width, get, put}
+use Rattle.model.specs.Layout.{Copy, copyA, copyB, Cell, marker, byte, width, get, put, putPage}
 
 -- one store: its place, which is a cell of a unit, and its byte
 pub record Store : Type 0 where
@@ -44,14 +44,16 @@ unfoldable pub cleanupStores : Plan → List ℕ → ℕ → Direction → List 
 cleanupStores p image u d =
     copying u (target d) (λ i. get p image u (byte (source d) i)) (width p u) 0 ++ (store u marker OK ∷ [])
 
--- "A torn data byte is m." A torn marker goes bit by bit (specs/Marker.antt).
-abbrev pub tornCell : ℕ → Cell → ℕ → ℕ → ℕ
-tornCell m marker old new = torn old new m
-tornCell m (byte c i) old new = m
+-- Ticket 9: "data and filler become the given byte, a torn marker keeps the bit rule" (specs/Marker.antt): what is left of the page
+-- around a cell that held old
+abbrev pub pageLeft : Cell → ℕ → ℕ → List ℕ → List ℕ
+pageLeft marker old new bytes = torn old new (getD bytes 0 0) ∷ drop 1 bytes
+pageLeft (byte c i) old new bytes = bytes
 
--- the image after a store, if there is one: "No other byte is touched."
+-- the image after a store, if there is one. A completed one is of one byte; Ticket 9: "The cheaper chip tears the page around the byte
+-- it is storing." "No other byte is touched."
 unfoldable pub stored : Plan → List ℕ → End → Option Store → List ℕ
 stored p image e none = image
 stored p image completed (some s) = put p image (s .unit) (s .cell) (s .value)
-stored p image (tornBy m) (some s) =
-    put p image (s .unit) (s .cell) (tornCell m (s .cell) (get p image (s .unit) (s .cell)) (s .value))
+stored p image (tornBy bytes) (some s) =
+    putPage p image (s .unit) (s .cell) (pageLeft (s .cell) (get p image (s .unit) (s .cell)) (s .value) bytes)

@@ -15,7 +15,7 @@ use Rattle.model.specs.Refusals.{Job, cold, ready, writing, recovering}
 use Rattle.model.specs.Calls.{Device, Outcome}
 use Rattle.model.specs.Calls as calls
 use Rattle.model.specs.Ledger.{Ledger, Call, begin, ride, step, cut, wake, opening, told, passesAt, fed}
-use Rattle.model.specs.PowerCut.{run, answers, closedBy, repair, Repairs}
+use Rattle.model.specs.PowerCut.{run, answers, closedBy, Closes, repair, Repairs}
 
 -- ---- "rides whose write passed"
 -- the write under way passes at its next store, which ends so
@@ -29,7 +29,7 @@ abbrev pub passesBy : Plan → Ledger → Call → Bool
 passesBy p l (begin u payload) = false
 passesBy p l (ride turns) = false
 passesBy p l step = passesNext p l completed (l .job)
-passesBy p l (cut m) = passesNext p l (tornBy m) (l .job)
+passesBy p l (cut bytes) = passesNext p l (tornBy bytes) (l .job)
 passesBy p l wake = false
 
 -- the turns that are due once an accepted call is made: those of a ride; a begin's write has none
@@ -37,7 +37,7 @@ abbrev pub dueAfter : Call → List ℕ → List ℕ
 dueAfter (begin u payload) due = []
 dueAfter (ride turns) due = turns ∷ []
 dueAfter step due = due
-dueAfter (cut m) due = due
+dueAfter (cut bytes) due = due
 dueAfter wake due = due
 
 -- the turns that an accepted call counts: those due, if the write under way passes at it
@@ -69,7 +69,7 @@ NoBegin u [] = Unit
 NoBegin u (begin v payload ∷ cs) = ¬ (v ≡ u) × NoBegin u cs
 NoBegin u (ride turns ∷ cs) = NoBegin u cs
 NoBegin u (step ∷ cs) = NoBegin u cs
-NoBegin u (cut m ∷ cs) = NoBegin u cs
+NoBegin u (cut bytes ∷ cs) = NoBegin u cs
 NoBegin u (wake ∷ cs) = NoBegin u cs
 
 -- ---- "after wake and uncut steps": `cutOff` is what the closing cut left, and the steps are those of its repair.
@@ -89,6 +89,7 @@ abbrev pub TurnsAddUp : Type 0
 TurnsAddUp =
     (d : Device) (image : List ℕ)
     → calls.format d image .number ≡ 0
-    → (cs : List Call) (m : ℕ)
+    → (cs : List Call) (bytes : List ℕ)
+    → Closes bytes cs (calls.format d image)
     → NoBegin 0 cs
-    → Totalled (d .plan) (run (closedBy m cs) (calls.format d image)) (turnsOver (d .plan) (closedBy m cs))
+    → Totalled (d .plan) (run (closedBy bytes cs) (calls.format d image)) (turnsOver (d .plan) (closedBy bytes cs))

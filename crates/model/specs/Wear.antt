@@ -28,7 +28,7 @@ abbrev pub completes : Ledger → Call → ℕ
 completes l (begin u payload) = 0
 completes l (ride turns) = 0
 completes l step = 1
-completes l (cut m) = 0
+completes l (cut bytes) = 0
 completes l wake = 0
 
 -- the torn ones, which the count leaves out: a cut tears a store in Writing and Recovering
@@ -42,11 +42,11 @@ abbrev pub tears : Ledger → Call → ℕ
 tears l (begin u payload) = 0
 tears l (ride turns) = 0
 tears l step = 0
-tears l (cut m) = tornAt (l .job)
+tears l (cut bytes) = tornAt (l .job)
 tears l wake = 0
 
 -- ---- The ceiling: "the sum of 2w + 3 over the accepted begins, plus, for each cut, 1 plus the largest width of the plan".
--- A ride is a begin of unit 0.
+-- A ride is a begin of unit 0. Ticket 9: "accepted cuts only".
 -- the largest of the first n widths
 unfoldable pub widest : Plan → ℕ → ℕ
 widest p zero = 0
@@ -56,7 +56,7 @@ abbrev pub allows : Plan → Ledger → Call → ℕ
 allows p l (begin u payload) = 2 * width p u + 3
 allows p l (ride turns) = 2 * width p 0 + 3
 allows p l step = 0
-allows p l (cut m) = 1 + widest p (p .count)
+allows p l (cut bytes) = 1 + widest p (p .count)
 allows p l wake = 0
 
 -- ---- Of a list of calls from a formatted device

@@ -2,10 +2,12 @@
 // The meaning stands in specs/; specs/PowerCut.antt has the power-cut theorem's statement.
 pub mod refusals;
 
-// Units numbered from 0, each with its width in bytes. Widths past `count` are not looked at.
+// Units numbered from 0, each with its width in bytes. Widths past `count` are not looked at. The chip stores by pages of `page` bytes:
+// 1, 4, 8 or 16.
 pub struct Plan {
     pub count: u16,
     pub widths: [u16; 8],
+    pub page: u16,
 }
 
 // The way a cleanup copies.

@@ -47,3 +47,9 @@ pub const SUM_TOO_LARGE: u16 = 15;
 
 // The unit isn't eight bytes wide, so it holds no total.
 pub const NO_TOTAL: u16 = 16;
+
+// A page size other than 1, 4, 8 or 16.
+pub const BAD_PAGE: u16 = 17;
+
+// A cut has other than a page's number of bytes.
+pub const WRONG_TEAR: u16 = 18;

@@ -31,7 +31,7 @@ fn ride(device: Device, image: &mut [u8], turns: u64, stores: u16) -> Device {
 
 // A power cut, and the repair, which for unit 0 takes nine steps.
 fn outage(device: Device, image: &mut [u8]) -> Device {
-    let dead = device.cut(&mut image[..], 0);
+    let dead = device.cut(&mut image[..], b"\0");
     let woken = dead.device.wake(&image[..]);
     let repaired = woken.device.steps(&mut image[..], 9);
     repaired.device
@@ -41,6 +41,7 @@ fn formatted(image: &mut [u8]) -> Device {
     let plan = Plan {
         count: 2,
         widths: [8, 1, 0, 0, 0, 0, 0, 0],
+        page: 1,
     };
     let started = Device::start(plan);
     let ready = started.device.format(&mut image[..]);

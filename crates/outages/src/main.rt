@@ -1,21 +1,27 @@
 // Every place of a power cut in a save, with every byte that the cut can leave: a unit of three bytes holds "old", a save of "new" is
 // cut before each of its nine stores and after the last, and the console comes back. One letter a place: o where the old bytes come
-// back whatever the cut leaves, n where the new ones do, m where the cut's byte decides. Then the same for a cut in the repair of
-// such a save, which was itself cut in copy A, and in copy B.
+// back whatever the cut leaves, n where the new ones do, m where the cut's byte decides. A line for each page size, the page's bytes
+// being alike. Then, with pages of one byte, the same for a cut in the repair of such a save, which was itself cut in copy A, and in
+// copy B.
 use check::same;
 use libc::STDOUT_FILENO;
 use model::Plan;
 use replay::outage;
 ghost use Prim.Native.Nat.{_+_, _*_, _≤_};
 
-// What comes back after the calls and a cut that leaves m; x would be neither.
-fn back(calls: &[u8], m: u8) -> u8 {
+// What comes back after the calls and a cut that leaves m in every byte of the page; x would be neither.
+fn back(page: u16, calls: &[u8], m: u8) -> u8
+    requires { ⌜ page ≤ 16 ⌝ }
+{
     let plan = Plan {
         count: 1,
         widths: [3, 0, 0, 0, 0, 0, 0, 0],
+        page: page,
     };
-    let mut image = [0u8; 7];
-    let repaired = outage(plan, &mut image, calls, m);
+    let mut image = [0u8; 48];
+    let torn = [m; 16];
+    let size = page as usize;
+    let repaired = outage(plan, &mut image, calls, &torn[0..size]);
     let saved = repaired.device.read(&image, 0);
     if same(saved, b"old") {
         return b'o';
@@ -37,21 +43,23 @@ fn both(one: u8, other: u8) -> u8 {
 }
 
 // The letter of one place.
-fn letter(calls: &[u8]) -> u8 {
-    let mut found = back(calls, 0);
+fn letter(page: u16, calls: &[u8]) -> u8
+    requires { ⌜ page ≤ 16 ⌝ }
+{
+    let mut found = back(page, calls, 0);
     for m in 1..=255 {
-        found = both(found, back(calls, m));
+        found = both(found, back(page, calls, m));
     }
     found
 }
 
 // A letter for each place of a cut: after the first `start` bytes, and after each step that follows them.
-fn row(calls: [u8; 137], start: usize, steps: usize)
-    requires { ⌜ start + 5 * steps ≤ 137 ⌝ }
+fn row(page: u16, calls: [u8; 137], start: usize, steps: usize)
+    requires { ⌜ (page ≤ 16) × (start + 5 * steps ≤ 137) ⌝ }
 {
     for made in 0..=steps {
         let end = start + 5 * made;
-        io::write_all(STDOUT_FILENO, &[letter(&calls[0..end])]);
+        io::write_all(STDOUT_FILENO, &[letter(page, &calls[0..end])]);
     }
     io::write_all(STDOUT_FILENO, b"\n");
 }
@@ -82,11 +90,14 @@ fn cut_again(stores: usize)
     calls[at + 4] = 1;
     calls[at + 5] = 0x5a;
     calls[at + 6] = 3;
-    row(calls, at + 11, 4);
+    row(1, calls, at + 11, 4);
 }
 
 fn main() {
-    row(saves(), 61, 9);
+    row(1, saves(), 61, 9);
+    row(4, saves(), 61, 9);
+    row(8, saves(), 61, 9);
+    row(16, saves(), 61, 9);
     cut_again(2);
     cut_again(6);
 }

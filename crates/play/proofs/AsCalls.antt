@@ -8,9 +8,9 @@ use Rattle.play.specs.AsCalls.{LinesAreCalls}
 
 pub plays-run : LinesAreCalls
 unfolding plays run call
-plays-run (Plan at count) line d image = refl
+plays-run (Plan at count page) line d image = refl
 plays-run (Write unit at count) line d image = refl
 plays-run (Step n) line d image = steps-run n d image
-plays-run (Cut m) line d image = refl
+plays-run (Cut at count) line d image = refl
 plays-run Wake line d image = refl
 plays-run Show line d image = refl

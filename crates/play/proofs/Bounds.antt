@@ -1,24 +1,20 @@
--- A plan that start accepts has units of at most 8 * 513 bytes together.
-use Prim.Native.Nat.{ℕ, zero, suc, _*_, _≤_}
+-- A plan that start accepts has units of at most 8 * 528 bytes together.
+use Prim.Native.Nat.{ℕ, zero, suc, _≤_}
 use mathlib.Core.Path.{_≡_, refl, sym, _∙_}
 use native.Mathlib.Omega.{arith}
 use Rattle.model.specs.declared.Plan.{Plan}
-use Rattle.model.specs.Layout.{base, total}
+use Rattle.model.specs.Layout.{total}
 use Rattle.model.specs.Refusals.{startNumber}
 use Rattle.model.specs.Calls.{start, startAnswer}
 use Rattle.store.specs.declared.Answer.{Answer}
 use Rattle.store.specs.Modelled.{Starts}
-use Rattle.model.proofs.RefusalLaws.{PlanOk, start-says, count-bounds, width-bounds}
+use Rattle.model.proofs.RefusalLaws.{start-says, count-bounds}
+use Rattle.lookup.proofs.Laws.{base-small}
 
-base-most : (p : Plan) → PlanOk p → (n : ℕ) → n ≤ p .count → base p n ≤ n * 513
-unfolding base
-base-most p ok zero h = omega arith
-base-most p ok (suc n) h = omega (arith, base-most p ok n (omega arith), width-bounds p ok n (omega arith) .1)
-
-pub total-most : (p : Plan) → startNumber p ≡ 0 → total p ≤ 4104
+pub total-most : (p : Plan) → startNumber p ≡ 0 → total p ≤ 4224
 total-most p e =
     let ok = start-says p e in
-    omega (arith, base-most p ok (p .count) (omega arith), count-bounds p ok .1)
+    omega (arith, base-small p ok (p .count) (omega arith), count-bounds p ok .1)
 
 start-number : (p : Plan) → start p .number ≡ startNumber p
 unfolding start

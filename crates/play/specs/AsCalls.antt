@@ -13,10 +13,10 @@ use Rattle.model.specs.PowerCut.{run}
 use Rattle.play.specs.Plays.{plays}
 
 abbrev pub callsOfLine : Form → List ℕ → List Call
-callsOfLine (Plan at count) line = []
+callsOfLine (Plan at count page) line = []
 callsOfLine (Write unit at count) line = begin unit (valuesAt Byte line at count) ∷ []
 callsOfLine (Step n) line = replicate n step
-callsOfLine (Cut m) line = cut m ∷ []
+callsOfLine (Cut at count) line = cut (valuesAt Byte line at count) ∷ []
 callsOfLine Wake line = wake ∷ []
 callsOfLine Show line = []
 

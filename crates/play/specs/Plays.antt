@@ -36,20 +36,20 @@ Held p image = (startNumber p ≡ 0) × (total p ≤ length image)
 
 -- a form of a line after the first. A plan may not stand there, and show only looks.
 unfoldable pub plays : Form → List ℕ → Device → List ℕ → Outcome
-plays (Plan at count) line d image = outcome 0 d image
+plays (Plan at count page) line d image = outcome 0 d image
 plays (Write unit at count) line d image = calls.begin d image unit (valuesAt Byte line at count)
 plays (Step n) line d image = steps n d image
-plays (Cut m) line d image = calls.cut d image m
+plays (Cut at count) line d image = calls.cut d image (valuesAt Byte line at count)
 plays Wake line d image = calls.wake d image
 plays Show line d image = outcome 0 d image
 
 -- "Each form but show prints its word and, in decimal, the answer number of the last call it made."
 -- Show's lines, between which the buffer may be written out, are `put_unit`'s. A plan prints no line here.
 abbrev pub word : Form → Option (List ℕ)
-word (Plan at count) = none
+word (Plan at count page) = none
 word (Write unit at count) = some (ascii "write")
 word (Step n) = some (ascii "step")
-word (Cut m) = some (ascii "cut")
+word (Cut at count) = some (ascii "cut")
 word Wake = some (ascii "wake")
 word Show = none
 
@@ -59,10 +59,10 @@ Answered (some w) number before place after next = Wrote before place (answerLin
 
 -- "which must be the first line and no other"
 abbrev pub isPlan : Form → Bool
-isPlan (Plan at count) = true
+isPlan (Plan at count page) = true
 isPlan (Write unit at count) = false
 isPlan (Step n) = false
-isPlan (Cut m) = false
+isPlan (Cut at count) = false
 isPlan Wake = false
 isPlan Show = false
 

@@ -13,7 +13,7 @@ ghost use mathlib.Core.Bool.{false};
 ghost use Prim.Native.Nat.{_+_, _<_, _≤_};
 ghost use lib.ListN.{length};
 ghost use Rattle.model.specs.Refusals.{startNumber};
-ghost use Rattle.model.specs.Calls.{begin};
+ghost use Rattle.model.specs.Calls.{begin, cut};
 ghost use Rattle.store.specs.Modelled.{modelled, Gives};
 ghost use Rattle.list.specs.declared.Kind.the-variants.{Byte};
 ghost use Rattle.script.specs.declared.Line.the-variants.{Is};
@@ -86,7 +86,7 @@ fn show(out: &mut [u8], used: usize, plan: Plan, image: &[u8]) -> usize
 
 // Start, and format over an image of exactly the units' length: the answer of the last call.
 fn open(plan: Plan, image: &mut [u8]) -> Answer
-    requires { ⌜ 4104 ≤ length (now image) ⌝ }
+    requires { ⌜ 4224 ≤ length (now image) ⌝ }
     ensures { λ r. ⌜ (r .number ≡ 0 → startNumber plan ≡ 0) ⌝ }
 {
     let started = Device::start(plan);
@@ -107,6 +107,17 @@ fn write(device: Device, image: &[u8], line: &[u8], unit: u16, at: usize, count:
     let mut payload = [0u8; 256];
     script::bytes_into(line, at, count, &mut payload);
     device.begin(image, unit, &payload[..count])
+}
+
+// Cuts the power, with the bytes that a line lists.
+fn cut(device: Device, image: &mut [u8], line: &[u8], at: usize, count: usize) -> Answer
+    requires { ⌜ count ≤ 16 ⌝ }
+    ensures { λ r. ⌜ Gives r (now (image .exit))
+        (cut (modelled device) (now (image .entry)) (valuesAt Byte (now (line .entry)) at count)) ⌝ }
+{
+    let mut page = [0u8; 16];
+    script::bytes_into(line, at, count, &mut page);
+    device.cut(image, &page[..count])
 }
 
 // Prints the form's word and the answer's number.
@@ -140,7 +151,7 @@ fn play(
 {
     match form {
         // "must be the first line and no other"
-        Form::Plan { at: _, count: _ } => Played {
+        Form::Plan { .. } => Played {
             device: device,
             used: used,
             bad: true,
@@ -152,7 +163,7 @@ fn play(
             used,
         ),
         Form::Step(count) => tell(b"step", device.steps(image, count), out, used),
-        Form::Cut(byte) => tell(b"cut", device.cut(image, byte), out, used),
+        Form::Cut { at, count } => tell(b"cut", cut(device, image, line, at, count), out, used),
         Form::Wake => tell(b"wake", device.wake(image), out, used),
         Form::Show => Played {
             device: device,
@@ -201,7 +212,7 @@ fn play_lines(
 // Plays a plan and, unless it is refused, the lines from an offset on.
 fn play_plan(text: &[u8], from: usize, plan: Plan, image: &mut [u8], out: &mut [u8]) -> usize
     requires { ⌜ (from ≤ length (now text) + 1) × (length (now text) ≤ 65536) × (0 < from)
-        × (4104 ≤ length (now image)) × Buffer (now out) 0 ⌝ }
+        × (4224 ≤ length (now image)) × Buffer (now out) 0 ⌝ }
     ensures { λ r. ⌜ Buffer (now (out .exit)) r ⌝ }
 {
     let answer = open(plan, image);
@@ -216,7 +227,7 @@ fn play_plan(text: &[u8], from: usize, plan: Plan, image: &mut [u8], out: &mut [
 
 // Plays a script; its first line must be a plan.
 fn run(text: &[u8], image: &mut [u8], out: &mut [u8]) -> usize
-    requires { ⌜ (4104 ≤ length (now image)) × Buffer (now out) 0 ⌝ }
+    requires { ⌜ (4224 ≤ length (now image)) × Buffer (now out) 0 ⌝ }
     ensures { λ r. ⌜ Buffer (now (out .exit)) r ⌝ }
 {
     if 65536 < text.len() {
@@ -229,20 +240,21 @@ fn run(text: &[u8], image: &mut [u8], out: &mut [u8]) -> usize
     let Read::Form { form, start, end } = read else {
         return print_bad(out, 0, 1);
     };
-    let Form::Plan { at, count } = form else {
+    let Form::Plan { at, count, page } = form else {
         return print_bad(out, 0, 1);
     };
     let widths = script::widths_at(&text[start..end], at, count);
     let plan = Plan {
         count: count as u16,
         widths: widths,
+        page: page,
     };
     play_plan(text, end + 1, plan, image, out)
 }
 
 // Plays a script of any length, and writes out what the buffer still holds. The image has room for the largest plan.
 pub fn run_all(text: &[u8], image: &mut [u8], out: &mut [u8])
-    requires { ⌜ (4104 ≤ length (now image)) × Buffer (now out) 0 ⌝ }
+    requires { ⌜ (4224 ≤ length (now image)) × Buffer (now out) 0 ⌝ }
 {
     let used = run(text, image, out);
     flush(out, used);

@@ -27,7 +27,7 @@ unitText number log a b =
     ++ listed (ascii " (b") b
     ++ ascii ")\n"
 
--- "Show prints a line a unit: its decimal number, then marker, A and B as HH bytes."
+-- "Show prints a line a unit: its decimal number, then marker, A and B as HH bytes." Ticket 9: "show omits filler"
 unfoldable pub unitLine : Plan → List ℕ → ℕ → List ℕ
 unitLine p image u =
     unitText u (get p image u marker ∷ []) (copyOf p image u copyA) (copyOf p image u copyB)

@@ -7,8 +7,7 @@ ghost use Rattle.model.specs.Layout.{total};
 ghost use Rattle.model.specs.Refusals.{startNumber};
 ghost use Rattle.text.specs.Wrote.{Wrote};
 ghost use Rattle.printing.specs.Printed.{numbered, answerLine, listed, unitText, unitLine, lineMost};
-use layout::base_of;
-use layout::width_of;
+use lookup::span_of;
 use model::Plan;
 use text::put;
 use text::put_bytes;
@@ -65,24 +64,29 @@ fn put_parts(out: &mut [u8], at: usize, number: usize, log: &[u8], a: &[u8], b: 
     put_text(out, place, b")\n")
 }
 
-// The line of a unit of an accepted plan, read from the image.
+// The line of a unit of an accepted plan, read from the image. The filler of its pages is not shown.
 pub fn put_unit(out: &mut [u8], at: usize, plan: Plan, image: &[u8], unit: u16) -> usize
     requires { ⌜ (at + lineMost ≤ length (now out)) × (startNumber plan ≡ 0) × (total plan ≤ length (now image))
         × (unit < plan .count) ⌝ }
     ensures { λ r. ⌜ Wrote (now (out .entry)) at (unitLine plan (now (image .entry)) unit) (now (out .exit)) r
         × (r ≤ at + lineMost) ⌝ }
 {
-    let width = width_of(plan, unit) as usize;
-    let base = base_of(plan, unit);
-    let first = base + 1;
-    let middle = first + width;
-    let end = middle + width;
+    let span = span_of(plan, unit, image.len());
+    let base = span.base as usize;
+    let width = span.width as usize;
+    let a = span.a as usize;
+    let b = span.b as usize;
+    let copy_a = base + a;
+    let copy_b = base + b;
+    let log_end = base + 1;
+    let a_end = copy_a + width;
+    let b_end = copy_b + width;
     put_parts(
         out,
         at,
         unit as usize,
-        &image[base..first],
-        &image[first..middle],
-        &image[middle..end],
+        &image[base..log_end],
+        &image[copy_a..a_end],
+        &image[copy_b..b_end],
     )
 }

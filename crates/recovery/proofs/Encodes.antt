@@ -43,7 +43,7 @@ unfolding bytesOf callsFrom callOf
 decodes [] h = refl
 decodes (step ∷ cs) h = ahead step cs (decoded 0 0 []) (decodes cs h)
 decodes (begin u payload ∷ cs) h = ahead (begin u payload) cs (decoded 1 u payload) (decodes cs (h .3))
-decodes (cut m ∷ cs) h = ahead (cut m) cs (decoded 2 0 (m ∷ [])) (decodes cs (h .1))
+decodes (cut bytes ∷ cs) h = ahead (cut bytes) cs (decoded 2 0 bytes) (decodes cs (h .2))
 decodes (wake ∷ cs) h = ahead wake cs (decoded 3 0 []) (decodes cs h)
 decodes (ride turns ∷ cs) h = ahead (ride turns) cs (ride-decodes turns (h .0)) (decodes cs (h .1))
 
@@ -66,7 +66,7 @@ unfolding bytesOf
 in-bytes [] h = tt
 in-bytes (step ∷ cs) h = framed 0 0 [] (bytesOf cs) (omega arith) (omega arith) (omega arith) tt (in-bytes cs h)
 in-bytes (begin u payload ∷ cs) h = framed 1 u payload (bytesOf cs) (omega arith) (h .0) (h .1) (h .2) (in-bytes cs (h .3))
-in-bytes (cut m ∷ cs) h = framed 2 0 (m ∷ []) (bytesOf cs) (omega arith) (omega arith) (omega arith) (h .0, tt) (in-bytes cs (h .1))
+in-bytes (cut bytes ∷ cs) h = framed 2 0 bytes (bytesOf cs) (omega arith) (omega arith) (h .0) (h .1) (in-bytes cs (h .2))
 in-bytes (ride turns ∷ cs) h =
     framed 4 0 (inBytes 8 turns) (bytesOf cs) (omega arith) (omega arith) (omega (arith, bytes-size 8 turns)) (all-bytes 8 turns) (in-bytes cs (h .1))
 in-bytes (wake ∷ cs) h = framed 3 0 [] (bytesOf cs) (omega arith) (omega arith) (omega arith) tt (in-bytes cs h)

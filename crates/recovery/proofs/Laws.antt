@@ -21,7 +21,7 @@ unfolding call
 same-call (begin u payload) n d image = refl
 same-call (ride turns) n d image = refl
 same-call step n d image = refl
-same-call (cut m) n d image = refl
+same-call (cut bytes) n d image = refl
 same-call wake n d image = refl
 
 -- an answer and the image with it, as the outcome that they are

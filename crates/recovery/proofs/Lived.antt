@@ -5,7 +5,7 @@ use mathlib.Core.List.{List, [], _∷_, _++_}
 use mathlib.Core.Bool.{false}
 use mathlib.Core.Logic.{inl, inr}
 use native.Mathlib.Omega.{arith}
-use lib.ListN.{replicate}
+use lib.ListN.{length, replicate}
 use borrow.Author.Tests.{eq-eqb, ne-eqb, lt-ltb, le-ltb}
 use types.Run.{OneOf}
 use denote.Enum.Declared.{tagOf}
@@ -22,14 +22,14 @@ use Rattle.model.specs.Refusals.{stepNumber, wakeNumber}
 use Rattle.model.specs.Calls.{Device, Outcome, outcome, asStarted, asWoken, view, mostStores, counted, cleanupFrom}
 use Rattle.model.specs.Calls as calls
 use Rattle.model.specs.Ledger.{Ledger, Call, step, cut, opening, after}
-use Rattle.model.specs.PowerCut.{call, run, answers, closedBy, repair, Repairs, none, only}
+use Rattle.model.specs.PowerCut.{call, run, answers, closedBy, Closes, repair, Repairs, none, only}
 use Rattle.model.specs.Steps.{steps}
 use Rattle.model.specs.Restart.{restarted, Leads, ended, called, lost}
 use Rattle.model.proofs.Compare.{equal, differ, same}
-use Rattle.model.proofs.RefusalLaws.{PlanOk, count-bounds, width-bounds}
+use Rattle.model.proofs.RefusalLaws.{PlanOk, fits-page, count-bounds, width-bounds}
 use Rattle.model.proofs.StoreLaws.{none-found, lowest-found}
 use Rattle.model.proofs.Invariant.{Inv}
-use Rattle.model.proofs.Theorem.{accepts, along, format-opens, formats}
+use Rattle.model.proofs.Theorem.{accepts, along, format-opens, formats, cut-accepted-exactly}
 use Rattle.model.proofs.Restart.{starts, power-cut-restarting}
 use Rattle.model.proofs.InARow.{steps-run}
 use Rattle.model.proofs.Totals.{turns-saved}
@@ -45,23 +45,23 @@ unfolding run
 run-snoc [] c o = refl
 run-snoc (x ∷ cs) c o = run-snoc cs c (call x o)
 
-any-number : (cs : List Call) (m n : ℕ) (d : Device) (image : List ℕ)
-    → run (closedBy m cs) (outcome 0 d image) ≡ run (closedBy m cs) (outcome n d image)
+any-number : (cs : List Call) (page : List ℕ) (n : ℕ) (d : Device) (image : List ℕ)
+    → run (closedBy page cs) (outcome 0 d image) ≡ run (closedBy page cs) (outcome n d image)
 unfolding run
-any-number [] m n d image = sym (same-call (cut m) n d image)
-any-number (c ∷ cs) m n d image = ap (run (closedBy m cs)) (sym (same-call c n d image))
+any-number [] page n d image = sym (same-call (cut page) n d image)
+any-number (c ∷ cs) page n d image = ap (run (closedBy page cs)) (sym (same-call c n d image))
 
 -- the answers of start, format, replay and cut, and the images that they left
-pub cut-off : (p : Plan) (before : List ℕ) (cs : List Call) (m : ℕ) (s f q t : Answer) (i j left : List ℕ) → Starts s (calls.start p)
+pub cut-off : (p : Plan) (before : List ℕ) (cs : List Call) (page : List ℕ) (s f q t : Answer) (i j left : List ℕ) → Starts s (calls.start p)
     → Gives f i (calls.format (modelled (s .device)) before) → Gives q j (run cs (outcome 0 (modelled (f .device)) i))
-    → Gives t left (calls.cut (modelled (q .device)) j m)
-    → left ≡ run (closedBy m cs) (calls.format (calls.start p .device) before) .image
+    → Gives t left (calls.cut (modelled (q .device)) j page)
+    → left ≡ run (closedBy page cs) (calls.format (calls.start p .device) before) .image
 unfolding call
-cut-off p before cs m s f q t i j left hs hf hq ht =
-    ht .image ∙ ap (λ (o : Outcome). call (cut m) o .image) (gave hq)
+cut-off p before cs page s f q t i j left hs hf hq ht =
+    ht .image ∙ ap (λ (o : Outcome). call (cut page) o .image) (gave hq)
     ∙ ap (λ (o : Outcome). o .image)
-    (sym (run-snoc cs (cut m) _) ∙ any-number cs m (f .number) _ _
-    ∙ ap (run (closedBy m cs)) (gave hf ∙ ap (λ (d : Device). calls.format d before) (hs .device)))
+    (sym (run-snoc cs (cut page) _) ∙ any-number cs page (f .number) _ _
+    ∙ ap (run (closedBy page cs)) (gave hf ∙ ap (λ (d : Device). calls.format d before) (hs .device)))
 
 -- ---- after it
 abbrev pub stepsOf : Plan → Phase → ℕ
@@ -132,6 +132,7 @@ fits-ok p image f =
     record {
       count = rw (ne-eqb (p .count) 0 (λ e. absurd (omega (arith, f .count .0))), le-ltb 8 (p .count) (f .count .1));
       widths = go (p .count) (omega arith);
+      page = fits-page p (f .page);
     }
   where
     go : (n : ℕ) → n ≤ p .count → badWidths p n ≡ false
@@ -140,10 +141,11 @@ fits-ok p image f =
         let w = f .widths n (omega arith) in
         rw (go n (omega arith), ne-eqb (width p n) 0 (λ e. absurd (omega (arith, w .0))), le-ltb 256 (width p n) (omega (arith, w .1)))
 
-leads : (p : Plan) (cs : List Call) (m : ℕ) (o : Outcome) → Leads p (closedBy m cs) o (restarted p (run (closedBy m cs) o))
+leads : (p : Plan) (cs : List Call) (page : List ℕ) (o : Outcome) → Closes page cs o
+    → Leads p (closedBy page cs) o (restarted p (run (closedBy page cs) o))
 unfolding run
-leads p [] m o = lost ended
-leads p (c ∷ cs) m o = called (leads p cs m (call c o))
+leads p [] page o fine = lost fine ended
+leads p (c ∷ cs) page o fine = called (leads p cs page (call c o) fine)
 
 -- the ledger tells the steps of the repair
 told-steps : (p : Plan) (before : List ℕ) (l : Ledger) (o : Outcome) → Inv p before l o → {n : ℕ} → Repairs p (o .image) n → n ≡ repairSteps p l
@@ -179,27 +181,28 @@ zeros : (n : ℕ) {x : ℕ} {xs : List ℕ} → x ∷ xs ≡ replicate (1 + n) 0
 zeros n e = let plus : 1 + n ≡ suc n = omega arith in let q = rw plus at e in (cc, cc)
 
 -- j is the image that `until_cut` left, r and `left` are what `come_back` made of it
-pub restored : (p : Plan) (before : List ℕ) (cs : List Call) (m : ℕ) (j left : List ℕ) (r : Answer)
-    → j ≡ run (closedBy m cs) (calls.format (calls.start p .device) before) .image
+pub restored : (p : Plan) (before : List ℕ) (cs : List Call) (page j left : List ℕ) (r : Answer)
+    → j ≡ run (closedBy page cs) (calls.format (calls.start p .device) before) .image
     → ((n : ℕ) → calls.start p ≡ record { number = 0; device = asStarted p } → calls.wake (asStarted p) j .number ≡ 0 → Repairs p j n
     → Gives r left (run (repair n) (outcome 0 (asStarted p) j)))
-    → Fits p before → Restored p before (closedBy m cs) r left
+    → Fits p before → length page ≡ p .page → Restored p before (closedBy page cs) r left
 unfolding answers run call
-restored p before cs m j left r e back fits =
+restored p before cs page j left r e back fits full =
     let ok = fits-ok p before fits in
     let started = starts p ok in
     let F : Outcome = calls.format (asStarted p) before in
     let z : F .number ≡ 0 = formats p before ok (fits .long) in
-    let o : Outcome = run (closedBy m cs) F in
-    let is : j ≡ o .image = e ∙ ap (λ (a : calls.Answer). run (closedBy m cs) (calls.format (a .device) before) .image) started in
-    let h = rw started at (power-cut-restarting (asStarted p) before z cs m (restarted p o) (leads p cs m F)) in
+    let closes = cut-accepted-exactly (asStarted p) before z cs page .0 full in
+    let o : Outcome = run (closedBy page cs) F in
+    let is : j ≡ o .image = e ∙ ap (λ (a : calls.Answer). run (closedBy page cs) (calls.format (a .device) before) .image) started in
+    let h = rw started at (power-cut-restarting (asStarted p) before z cs page (restarted p o) closes (leads p cs page F closes)) in
     let W : Outcome = calls.wake (asStarted p) (o .image) in
     let woke : W .number ≡ 0 = zeros (h .steps) (h .accepted) .0 in
     let g = (rw is at back) (h .steps) started woke (h .needed) in
     let fresh : W .device .stores ≡ 0 = ap (λ (d : Device). d .stores) (woken-as (asStarted p) (o .image) woke) in
     let made =
     all-counted (h .steps) W woke (zeros (h .steps) (h .accepted) .1) (omega (arith, fresh, few p ok (o .image) (h .needed))) in
-    let inv = along p ok before (closedBy m cs) (opening p) F (format-opens (asStarted p) before z .1) .inv in
+    let inv = along p ok before (closedBy page cs) (opening p) F (format-opens (asStarted p) before z .1) .inv in
     record {
       number = g .number ∙ made .0;
       phase = ap (λ (d : Device). d .phase) (g .device) ∙ h .ready;
@@ -207,7 +210,7 @@ restored p before cs m j left r e back fits =
       markers = rw (g .image) (h .markers);
       copies = rw (g .image) (h .copies);
       turns = λ q.
-          ap amount (rw (g .image) (h .copies 0 (count-bounds p ok .0) copyA)) ∙ turns-saved p (closedBy m cs) q;
+          ap amount (rw (g .image) (h .copies 0 (count-bounds p ok .0) copyA)) ∙ turns-saved p (closedBy page cs) q;
       rest = rw (g .image) (h .rest);
       size = rw (g .image) (h .size);
     }

@@ -2,8 +2,7 @@
 --   a byte for its kind: 1 begin, 2 cut, 3 wake, 4 ride, any other step;
 --   two bytes, the high one first: the unit, which only a begin looks at;
 --   two bytes, the high one first: how many bytes of its own follow;
---   and these: a begin's payload; the byte that a cut leaves is the first of them, or 0; a ride's turns are the first eight,
---   lowest byte first, or 0 if there are fewer.
+--   and these: a begin's payload; the bytes of a cut; a ride's turns are the first eight, lowest byte first, or 0 if there are fewer.
 -- So any bytes are a list of calls. Those at the end that are too few for a call are none.
 use Prim.Native.Nat.{ℕ, zero, suc, _+_, _*_, _/_, _%_, _<_}
 use mathlib.Core.Path.{_≡_}
@@ -23,7 +22,7 @@ turnsIn own = cond (ltb (length own) 8) 0 (amount (take 8 own))
 unfoldable pub callOf : ℕ → ℕ → List ℕ → Call
 callOf kind unit own =
     cond (eqb kind 1) (begin unit own)
-    (cond (eqb kind 2) (cut (getD own 0 0)) (cond (eqb kind 3) wake (cond (eqb kind 4) (ride (turnsIn own)) step)))
+    (cond (eqb kind 2) (cut own) (cond (eqb kind 3) wake (cond (eqb kind 4) (ride (turnsIn own)) step)))
 
 -- the unit and the size, in what follows the kind
 abbrev pub unitIn : List ℕ → ℕ
@@ -51,7 +50,7 @@ encoded kind unit own = kind ∷ unit / 256 ∷ unit % 256 ∷ length own / 256 
 abbrev pub bytesOfCall : Call → List ℕ
 bytesOfCall step = encoded 0 0 []
 bytesOfCall (begin u payload) = encoded 1 u payload
-bytesOfCall (cut m) = encoded 2 0 (m ∷ [])
+bytesOfCall (cut bytes) = encoded 2 0 bytes
 bytesOfCall wake = encoded 3 0 []
 bytesOfCall (ride turns) = encoded 4 0 (inBytes 8 turns)
 
@@ -63,11 +62,11 @@ abbrev pub Bytes : List ℕ → Type 0
 Bytes [] = Unit
 Bytes (x ∷ xs) = (x < 256) × Bytes xs
 
--- what the library's calls can be handed: a unit of 16 bits, bytes, a payload of less than 65,536 of them, and turns of 64 bits
+-- what the library's calls can be handed: a unit of 16 bits, bytes, less than 65,536 of them, and turns of 64 bits
 abbrev pub Handed : List Call → Type 0
 Handed [] = Unit
 Handed (begin u payload ∷ cs) = (u < 65536) × (length payload < 65536) × Bytes payload × Handed cs
-Handed (cut m ∷ cs) = (m < 256) × Handed cs
+Handed (cut bytes ∷ cs) = (length bytes < 65536) × Bytes bytes × Handed cs
 Handed (ride turns ∷ cs) = (turns < 18446744073709551616) × Handed cs
 Handed (step ∷ cs) = Handed cs
 Handed (wake ∷ cs) = Handed cs

@@ -9,6 +9,7 @@ use lib.ListN.{length, drop}
 use Rattle.model.specs.declared.Plan.{Plan}
 use Rattle.model.specs.declared.Phase.the-variants.{Ready}
 use Rattle.model.specs.Marker.{OK}
+use Rattle.model.specs.Plans.{PageSize}
 use Rattle.model.specs.Layout.{Copy, copyA, marker, width, total, get, copyOf}
 use Rattle.model.specs.Turns.{amount}
 use Rattle.model.specs.Ledger.{Ledger, Call, cut, opening, after}
@@ -16,15 +17,17 @@ use Rattle.model.specs.Totals.{turnsOver, NoBegin}
 use Rattle.store.specs.declared.Answer.{Answer}
 use Rattle.recovery.specs.Encoding.{callsOf}
 
--- "A plan has a count k, 1 to 8 .. A width w is 1 to 256 bytes. .. The image is .. at least as long as all units together."
+-- "A plan has a count k, 1 to 8 .. A width w is 1 to 256 bytes. .. The image is .. at least as long as all units together."; Ticket 9:
+-- "A plan gains a page size p: 1, 4, 8 or 16."
 pub record Fits (p : Plan) (image : List ℕ) : Type 0 where
   pub count : (1 ≤ p .count) × (p .count ≤ 8)
   pub widths : (u : ℕ) → u < p .count → (1 ≤ width p u) × (width p u ≤ 256)
+  pub page : PageSize (p .page)
   pub long : total p ≤ length image
 
 -- the calls, and the cut that closes them
-abbrev pub closed : List ℕ → ℕ → List Call
-closed calls m = callsOf calls ++ (cut m ∷ [])
+abbrev pub closed : List ℕ → List ℕ → List Call
+closed calls page = callsOf calls ++ (cut page ∷ [])
 
 -- the steps that the repair takes: none if the marker of the unit last written is OK, else 1 plus the width of that unit
 abbrev pub repairSteps : Plan → Ledger → ℕ

@@ -1,9 +1,9 @@
-// The refusals: what a call answers by number, 0 or the lowest of document 01 that applies. Cut and inspect, which have 1 to 4
-// alone, ask `lookup`.
+// The refusals: what a call answers by number, 0 or the first of document 01 and the tickets that applies. Inspect, which has the
+// plan's, 3 and 4 alone, asks `lookup`.
 ghost use mathlib.Core.Path.{_≡_};
 ghost use mathlib.Core.List.{[], _∷_, _++_};
 ghost use mathlib.Core.Bool.{not, _||_};
-ghost use Rattle.model.specs.Refusals.{isCold, isReady, _when_, first, formatNumber, wakeNumber, stepNumber, readNumber, beginNumber};
+ghost use Rattle.model.specs.Refusals.{isCold, isReady, _when_, first, formatNumber, cutNumber, wakeNumber, stepNumber, readNumber, beginNumber};
 ghost use Rattle.model.specs.Calls.{jobOf, viewOf};
 ghost use Rattle.lookup.specs.Spans.{imageRow};
 use layout::base_of;
@@ -17,6 +17,7 @@ use model::refusals::FOREIGN_MARKER;
 use model::refusals::NO_UNIT;
 use model::refusals::WRONG_PHASE;
 use model::refusals::WRONG_SIZE;
+use model::refusals::WRONG_TEAR;
 use search::any_foreign;
 
 // Wrong phase for format and wake.
@@ -76,6 +77,20 @@ fn phase_number(plan: Plan, phase: Phase, length: usize, wrong: bool) -> u16
         return number;
     }
     if wrong { WRONG_PHASE } else { 0 }
+}
+
+// Refusals 1 to 4 of cut, and 18 for other than a page's number of bytes.
+pub fn cut_number(plan: Plan, phase: Phase, image: &[u8], size: usize) -> u16
+    ensures { λ r. ⌜ r ≡ cutNumber (viewOf plan phase (now (image .entry))) size ⌝ }
+{
+    let number = device_number(plan, phase, image.len());
+    if number != 0 {
+        return number;
+    }
+    if size != (plan.page as usize) {
+        return WRONG_TEAR;
+    }
+    0
 }
 
 // Refusals 1 to 5 of the calls that want a Ready device.

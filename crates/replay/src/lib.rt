@@ -29,16 +29,6 @@ fn number_at(bytes: &[u8], at: usize) -> u16
     number_of(bytes[at], bytes[at + 1])
 }
 
-// The first byte, 0 if there is none.
-fn first_of(bytes: &[u8]) -> u8
-    ensures { λ r. ⌜ r ≡ getD (now (bytes .entry)) 0 0 ⌝ }
-{
-    if bytes.len() == 0 {
-        return 0;
-    }
-    bytes[0]
-}
-
 // The turns of a ride: the first eight bytes, 0 if there are fewer.
 fn turns_of(bytes: &[u8]) -> u64
     ensures { λ r. ⌜ r ≡ turnsIn (now (bytes .entry)) ⌝ }
@@ -58,7 +48,7 @@ fn call(device: Device, image: &mut [u8], kind: u8, unit: u16, own: &[u8]) -> An
         return device.begin(image, unit, own);
     }
     if kind == 2 {
-        return device.cut(image, first_of(own));
+        return device.cut(image, own);
     }
     if kind == 3 {
         return device.wake(image);
@@ -99,15 +89,15 @@ pub fn replay(device: Device, image: &mut [u8], calls: &[u8]) -> Answer
     }
 }
 
-// A console up to a power cut that leaves m: a formatted device and any calls. The device is lost with the power.
-fn until_cut(plan: Plan, image: &mut [u8], calls: &[u8], m: u8)
+// A console up to a power cut that leaves these bytes in a page: a formatted device and any calls. The device is lost with the power.
+fn until_cut(plan: Plan, image: &mut [u8], calls: &[u8], page: &[u8])
     ensures { λ _. ⌜ now (image .exit)
-        ≡ run (closedBy m (callsOf (now (calls .entry)))) (format (start plan .device) (now (image .entry))) .image ⌝ }
+        ≡ run (closedBy (now (page .entry)) (callsOf (now (calls .entry)))) (format (start plan .device) (now (image .entry))) .image ⌝ }
 {
     let started = Device::start(plan);
     let formatted = started.device.format(image);
     let last = replay(formatted.device, image, calls);
-    last.device.cut(image, m);
+    last.device.cut(image, page);
 }
 
 // The console after it: a start, a wake, and the steps of the repair, which copy a unit and then set its marker.
@@ -135,12 +125,12 @@ fn come_back(plan: Plan, image: &mut [u8]) -> Answer
     copied.device.step(image)
 }
 
-// What a console lives through: start, format, any calls, and a power cut that leaves m; then start, wake and the exact number of
-// steps. The answer is the last step's, or the wake's if there is none to make.
-pub fn outage(plan: Plan, image: &mut [u8], calls: &[u8], m: u8) -> Answer
-    ensures { λ r. ⌜ (Fits plan (now (image .entry))
-        → Restored plan (now (image .entry)) (closed (now (calls .entry)) m) r (now (image .exit))) ⌝ }
+// What a console lives through: start, format, any calls, and a power cut that leaves these bytes in a page; then start, wake and the
+// exact number of steps. The answer is the last step's, or the wake's if there is none to make.
+pub fn outage(plan: Plan, image: &mut [u8], calls: &[u8], page: &[u8]) -> Answer
+    ensures { λ r. ⌜ (Fits plan (now (image .entry)) → length (now (page .entry)) ≡ plan .page
+        → Restored plan (now (image .entry)) (closed (now (calls .entry)) (now (page .entry))) r (now (image .exit))) ⌝ }
 {
-    until_cut(plan, image, calls, m);
+    until_cut(plan, image, calls, page);
     come_back(plan, image)
 }

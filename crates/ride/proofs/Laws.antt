@@ -1,6 +1,6 @@
 -- The rows of a ride and of a total, by the code's tests; and where unit 0's total stands.
 use Prim.Native.Nat.{ℕ, _+_, _-_, _≤_, _<_}
-use mathlib.Core.Path.{_≡_, refl, ap, sym, _∙_}
+use mathlib.Core.Path.{_≡_, refl, ap, ap₂, sym, _∙_}
 use mathlib.Core.List.{List, [], _∷_, _++_}
 use mathlib.Core.Bool.{not}
 use native.Mathlib.Omega.{arith}
@@ -15,14 +15,23 @@ use Rattle.model.specs.Turns.{amount}
 use Rattle.model.specs.Refusals.{isReady, _when_, Refusal, first, readNumber, totalNumber, rideNumber}
 use Rattle.model.specs.Calls.{jobOf, viewOf}
 use Rattle.model.proofs.RefusalLaws.{first-past, first-stop, first-skip, first-none, first-front, first-refused, first-passed, count-bounds}
+use Rattle.model.proofs.LayoutLaws.{copy-room}
 use Rattle.lookup.specs.Spans.{imageRow}
 use Rattle.lookup.proofs.Laws.{room}
 use Rattle.refusal.proofs.Laws.{phase-refused, phase-passed, live, unit-inside, marker-bad, marker-good}
 
--- copy A of unit 0 is the eight bytes after its marker
-pub total-part : (p : Plan) (image : List ℕ) → width p 0 ≡ 8 → take 8 (drop 1 image) ≡ copyOf p image 0 copyA
+-- copy A of unit 0 is the eight bytes after its marker's page
+pub total-part : (p : Plan) (image : List ℕ) → width p 0 ≡ 8 → take 8 (drop (p .page) image) ≡ copyOf p image 0 copyA
 unfolding copyOf base
-total-part p image w = rw w
+total-part p image w =
+    let at : p .page ≡ 0 + (p .page + 0) = omega arith in
+    ap₂ (λ (n q : ℕ). take n (drop q image)) (sym w) at
+
+-- the part of the image that the code lends, from its first byte and the byte past its last
+pub eight-from : (page : ℕ) (image : List ℕ) → amount (take (page + 8 - page) (drop page image)) ≡ amount (take 8 (drop page image))
+eight-from page image =
+    let e : page + 8 - page ≡ 8 = omega arith in
+    ap (λ (n : ℕ). amount (take n (drop page image))) e
 
 -- ---- a ride: k is the code's number for 1 to 5
 module _ (p : Plan) (phase : Phase) (image : List ℕ) (turns k : ℕ)
@@ -49,10 +58,11 @@ module _ (p : Plan) (phase : Phase) (image : List ℕ) (turns k : ℕ)
     other-width h = sym (from-16 ∙ first-stop 16 _ _ (ap not (ne-eqb (width p 0) 8 h)))
 
     module _ (w : width p 0 ≡ 8) where
-      pub total-inside : 17 ≤ length image
+      pub total-inside : p .page + 8 ≤ length image
       total-inside =
           let l = live p phase image k _ e z in
-          omega (arith, w, unit-inside p phase image l 0 (count-bounds p (room p phase image l .ok) .0))
+          let ok = room p phase image l .ok in
+          omega (arith, w, copy-room p ok 0, unit-inside p phase image l 0 (count-bounds p ok .0))
 
       from-8 : number ≡ first (8 when not (eqb (get p image 0 marker) OK) ∷ large (amount held))
       from-8 = from-16 ∙ first-skip 16 _ _ (ap not (eq-eqb (width p 0) 8 w))
@@ -61,7 +71,7 @@ module _ (p : Plan) (phase : Phase) (image : List ℕ) (turns k : ℕ)
       unfolding base
       bad-mark h = sym (from-8 ∙ first-stop 8 _ _ (marker-bad p phase image 0 0 refl h))
 
-      module _ (m : getD image 0 0 ≡ OK) (total : ℕ) (is : total ≡ amount (take 8 (drop 1 image))) where
+      module _ (m : getD image 0 0 ≡ OK) (total : ℕ) (is : total ≡ amount (take 8 (drop (p .page) image))) where
         from-15 : number ≡ first (large total)
         unfolding base
         from-15 =

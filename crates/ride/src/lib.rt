@@ -36,19 +36,21 @@ pub fn ride_number(plan: Plan, phase: Phase, image: &[u8], turns: u64) -> u16
     if image[0] != Marker::OK {
         return BAD_MARKER;
     }
-    let total = amount_of(&image[1..9]);
+    let first = plan.page as usize;
+    let total = amount_of(&image[first..first + 8]);
     if MOST - total < turns {
         return SUM_TOO_LARGE;
     }
     0
 }
 
-// The payload of an accepted ride: unit 0's total in copy A, and the turns.
-pub fn ridden(image: &[u8], turns: u64) -> [u8; 256]
-    requires { ⌜ (9 ≤ length (now image)) × (amount (take 8 (drop 1 (now image))) + turns ≤ 18446744073709551615) ⌝ }
-    ensures { λ r. ⌜ r ≡ padded (plus (take 8 (drop 1 (now (image .entry)))) turns) ⌝ }
+// The payload of an accepted ride: unit 0's total in copy A, which begins after the marker's page, and the turns.
+pub fn ridden(page: u16, image: &[u8], turns: u64) -> [u8; 256]
+    requires { ⌜ (page + 8 ≤ length (now image)) × (amount (take 8 (drop page (now image))) + turns ≤ 18446744073709551615) ⌝ }
+    ensures { λ r. ⌜ r ≡ padded (plus (take 8 (drop page (now (image .entry)))) turns) ⌝ }
 {
-    let before = amount_of(&image[1..9]);
+    let first = page as usize;
+    let before = amount_of(&image[first..first + 8]);
     let bytes = bytes_of(before + turns);
     zero_filled(&bytes)
 }

@@ -18,14 +18,14 @@ use Rattle.script.specs.declared.Line.{Line}
 use Rattle.script.specs.declared.Line.the-variants.{Is, Bad}
 use Rattle.token.specs.Token.{lost, eatAt, wordAt, numberAt}
 use Rattle.list.specs.List.{itemAt, items, endsAt, itemsAt, listAt}
-use Rattle.script.specs.Line.{closedAt, planOf, writeOf, stepOf, cutOf, bareOf, _or_, shortFormOf, formOf}
+use Rattle.script.specs.Line.{closedAt, _or_, pagedAt, planOf, writeOf, cutListOf, stepOf, cutOf, bareOf, shortFormOf, formOf}
 
--- "0 to 16 widths", "0 to 256 bytes"
+-- "0 to 16 widths", "0 to 256 bytes", a cut's "0 to 16 bytes"
 abbrev Counted : Line → Type 0
-Counted (Is (Plan at count)) = count ≤ 16
+Counted (Is (Plan at count page)) = count ≤ 16
 Counted (Is (Write unit at count)) = count ≤ 256
 Counted (Is (Step count)) = Unit {0}
-Counted (Is (Cut torn)) = Unit {0}
+Counted (Is (Cut at count)) = count ≤ 16
 Counted (Is Wake) = Unit {0}
 Counted (Is Show) = Unit {0}
 Counted Bad = Unit {0}
@@ -65,13 +65,23 @@ unfolding _or_
 or-counted (Is form) other f o = f
 or-counted Bad other f o = o
 
+paged-counted : (line : List ℕ) (past at count : ℕ) → count ≤ 16 → Counted (pagedAt line past at count)
+unfolding pagedAt
+paged-counted line past at count few = closed-counted line _ _ few
+
 plan-counted : (line : List ℕ) → Counted (planOf line)
 unfolding planOf
-plan-counted line = closed-counted line _ _ (list-counted Number line _ 16)
+plan-counted line =
+    let few = list-counted Number line (wordAt line 0 (ascii "(plan (")) 16 in
+    or-counted _ _ (closed-counted line _ _ few) (paged-counted line _ _ _ few)
 
 write-counted : (line : List ℕ) → Counted (writeOf line)
 unfolding writeOf
 write-counted line = closed-counted line _ _ (list-counted Byte line _ 256)
+
+cut-list-counted : (line : List ℕ) → Counted (cutListOf line)
+unfolding cutListOf
+cut-list-counted line = closed-counted line _ _ (list-counted Byte line _ 16)
 
 step-counted : (line : List ℕ) → Counted (stepOf line)
 unfolding stepOf
@@ -81,16 +91,19 @@ step-counted line =
 
 cut-counted : (line : List ℕ) → Counted (cutOf line)
 unfolding cutOf
-cut-counted line = closed-counted line _ _ tt
+cut-counted line = closed-counted line _ _ (omega arith)
 
 counted : (line : List ℕ) → Counted (formOf line)
 unfolding formOf shortFormOf bareOf
 counted line =
-    or-counted _ _ (plan-counted line) (or-counted _ _ (write-counted line) (or-counted _ _ (step-counted line) (or-counted _ _ (cut-counted line)
-    (or-counted _ _ (closed-counted line _ Wake tt) (closed-counted line _ Show tt)))))
+    or-counted _ _ (plan-counted line) (or-counted _ _ (write-counted line) (or-counted _ _ (cut-list-counted line) (or-counted _ _ (step-counted line)
+    (or-counted _ _ (cut-counted line) (or-counted _ _ (closed-counted line _ Wake tt) (closed-counted line _ Show tt))))))
 
-pub plan-count : (line : List ℕ) (at count : ℕ) → formOf line ≡ Is (Plan at count) → count ≤ 16
-plan-count line at count e = rw e at (counted line)
+pub plan-count : (line : List ℕ) (at count page : ℕ) → formOf line ≡ Is (Plan at count page) → count ≤ 16
+plan-count line at count page e = rw e at (counted line)
 
 pub write-count : (line : List ℕ) (unit at count : ℕ) → formOf line ≡ Is (Write unit at count) → count ≤ 256
 write-count line unit at count e = rw e at (counted line)
+
+pub cut-count : (line : List ℕ) (at count : ℕ) → formOf line ≡ Is (Cut at count) → count ≤ 16
+cut-count line at count e = rw e at (counted line)

@@ -3,7 +3,7 @@ ghost use mathlib.Core.Path.{_≡_};
 ghost use lib.Seq.{sets};
 ghost use Rattle.list.specs.declared.Kind.the-variants.{Byte};
 ghost use Rattle.list.specs.Items.{valuesAt};
-ghost use Rattle.script.specs.Line.{closedAt, planOf, writeOf, stepOf, cutOf, bareOf, _or_, shortFormOf, formOf};
+ghost use Rattle.script.specs.Line.{closedAt, _or_, pagedAt, planOf, writeOf, cutListOf, stepOf, cutOf, bareOf, shortFormOf, formOf};
 ghost use Rattle.script.specs.Widths.{widthsAt};
 use list::Kind;
 use list::list_at;
@@ -14,10 +14,10 @@ use token::word;
 
 // A form. Of a list it keeps where in the line the items begin, and how many there are.
 pub enum Form {
-    Plan { at: usize, count: usize },
+    Plan { at: usize, count: usize, page: u16 },
     Write { unit: u16, at: usize, count: usize },
     Step(u16),
-    Cut(u8),
+    Cut { at: usize, count: usize },
     Wake,
     Show,
 }
@@ -40,19 +40,44 @@ fn closed(line: &[u8], at: usize, form: Form) -> Line
     }
 }
 
-// `(plan (W ..))`, 0 to 16 widths.
+// The first line that is a form.
+fn or(first: Line, other: Line) -> Line
+    ensures { λ r. ⌜ r ≡ (first or other) ⌝ }
+{
+    match first {
+        Line::Is(form) => Line::Is(form),
+        Line::Bad => other,
+    }
+}
+
+// A plan's ` (page P)` and the bracket of the form, past the widths.
+fn paged(line: &[u8], past: usize, at: usize, count: usize) -> Line
+    ensures { λ r. ⌜ r ≡ pagedAt (now (line .entry)) past at count ⌝ }
+{
+    let page = number(line, word(line, past, b" (page "));
+    let end = eat(line, page.next, b')');
+    let form = Form::Plan {
+        at: at,
+        count: count,
+        page: page.value as u16,
+    };
+    closed(line, end, form)
+}
+
+// `(plan (W ..))`, 0 to 16 widths, and `(plan (W ..) (page P))`.
 fn plan(line: &[u8]) -> Line
     ensures { λ r. ⌜ r ≡ planOf (now (line .entry)) ⌝ }
 {
     let at = word(line, 0, b"(plan (");
     let widths = list_at(Kind::Number, line, at, 16);
-    closed(
-        line,
-        widths.next,
-        Form::Plan {
-            at: at,
-            count: widths.count,
-        },
+    let unpaged = Form::Plan {
+        at: at,
+        count: widths.count,
+        page: 1,
+    };
+    or(
+        closed(line, widths.next, unpaged),
+        paged(line, widths.next, at, widths.count),
     )
 }
 
@@ -74,6 +99,22 @@ fn write(line: &[u8]) -> Line
     )
 }
 
+// `(cut (HH ..))`, 0 to 16 bytes.
+fn cut_list(line: &[u8]) -> Line
+    ensures { λ r. ⌜ r ≡ cutListOf (now (line .entry)) ⌝ }
+{
+    let at = word(line, 0, b"(cut (");
+    let bytes = list_at(Kind::Byte, line, at, 16);
+    closed(
+        line,
+        bytes.next,
+        Form::Cut {
+            at: at,
+            count: bytes.count,
+        },
+    )
+}
+
 // `(step N)`, N 1 to 65535.
 fn step(line: &[u8]) -> Line
     ensures { λ r. ⌜ r ≡ stepOf (now (line .entry)) ⌝ }
@@ -85,12 +126,13 @@ fn step(line: &[u8]) -> Line
     closed(line, count.next, Form::Step(count.value as u16))
 }
 
-// `(cut HH)`.
+// `(cut HH)`: the byte stands as in a list of one.
 fn cut(line: &[u8]) -> Line
     ensures { λ r. ⌜ r ≡ cutOf (now (line .entry)) ⌝ }
 {
-    let torn = hex(line, word(line, 0, b"(cut "));
-    closed(line, torn.next, Form::Cut(torn.value as u8))
+    let at = word(line, 0, b"(cut ");
+    let byte = hex(line, at);
+    closed(line, byte.next, Form::Cut { at: at, count: 1 })
 }
 
 // `(wake)`, `(show)`: a form that is its word alone.
@@ -98,16 +140,6 @@ fn bare(line: &[u8], name: &[u8], form: Form) -> Line
     ensures { λ r. ⌜ r ≡ bareOf (now (line .entry)) (now (name .entry)) form ⌝ }
 {
     closed(line, word(line, 0, name), form)
-}
-
-// The first line that is a form.
-fn or(first: Line, other: Line) -> Line
-    ensures { λ r. ⌜ r ≡ (first or other) ⌝ }
-{
-    match first {
-        Line::Is(form) => Line::Is(form),
-        Line::Bad => other,
-    }
 }
 
 // The forms without a list.
@@ -123,7 +155,10 @@ fn short_form_of(line: &[u8]) -> Line
 pub fn form_of(line: &[u8]) -> Line
     ensures { λ r. ⌜ r ≡ formOf (now (line .entry)) ⌝ }
 {
-    or(plan(line), or(write(line), short_form_of(line)))
+    or(
+        plan(line),
+        or(write(line), or(cut_list(line), short_form_of(line))),
+    )
 }
 
 // The bytes of a list, into the front of out, as far as out reaches.

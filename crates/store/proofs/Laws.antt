@@ -17,12 +17,12 @@ use Rattle.model.specs.declared.Phase.the-variants.{Cold, Writing}
 use Rattle.model.specs.Layout.{copyA, width, copyOf}
 use Rattle.model.specs.Refusals.{isReady, first, deviceRow, inspectNumber, readNumber, beginNumber, cutNumber}
 use Rattle.model.specs.Marker.{tornBy}
-use Rattle.model.specs.Calls.{jobOf, viewOf, view, zeroPayload, padded, asBegun, begin, cut, imageAfter, Outcome, outcome, unlessRefused, noPlan, startAnswer, partUnlessRefused, inspection, inspect}
+use Rattle.model.specs.Stores.{stored}
+use Rattle.model.specs.Calls.{jobOf, viewOf, view, zeroPayload, padded, asBegun, begin, cut, next, imageAfter, Outcome, outcome, unlessRefused, noPlan, startAnswer, partUnlessRefused, inspection, inspect}
 use Rattle.model.proofs.RefusalLaws.{first-past, past, begin-says, width-bounds}
 use Rattle.lookup.specs.declared.Span.{Span}
 use Rattle.lookup.specs.Spans.{spanOf, Spans, Sound}
 use Rattle.lookup.proofs.Laws.{room, span-sound, span-inside, looked-up}
-use Rattle.mirror.specs.Ends.{Stores}
 use Rattle.refusal.proofs.Laws.{live}
 use Rattle.search.specs.declared.Found.{Found}
 use Rattle.search.specs.Found.{lowestFrom, found}
@@ -54,16 +54,16 @@ module _ (d : Device) (image : List ℕ) (k : ℕ) where
         accepted _ image d image k _ _ e z
         (record { number = refl; device = ap (λ (t : List ℕ). asBegun u t (modelled d)) is; image = refl })
 
-  module _ (m : ℕ) (after : List ℕ) (s : Stores (d .plan) (d .payload) (d .phase) (tornBy m) image after k) where
-    pub cut-refused : ¬ (k ≡ 0) → Gives (record { number = k; device = d }) after (cut (modelled d) image m)
-    unfolding cut cutNumber
-    cut-refused h = rw (s .kept h) (refused d image k _ _ (s .number) h)
+  module _ (page : List ℕ) (e : k ≡ cutNumber (viewOf (d .plan) (d .phase) image) (length page)) where
+    pub cut-refused : ¬ (k ≡ 0) → Gives (record { number = k; device = d }) image (cut (modelled d) image page)
+    unfolding cut
+    cut-refused h = refused d image k _ _ e h
 
-    pub cut-accepted : k ≡ 0
+    pub cut-accepted : k ≡ 0 → (after : List ℕ) → after ≡ stored (d .plan) image (tornBy page) (next (d .plan) (d .payload) image (d .phase))
         → Gives (record { number = 0; device = record { plan = d .plan; payload = zeroPayload; phase = Cold; stores = d .stores } }) after
-        (cut (modelled d) image m)
-    unfolding cut cutNumber imageAfter
-    cut-accepted z = accepted _ after d image k _ _ (s .number) z (record { number = refl; device = refl; image = s .image z })
+        (cut (modelled d) image page)
+    unfolding cut imageAfter
+    cut-accepted z after is = accepted _ after d image k _ _ e z (record { number = refl; device = refl; image = is })
 
 pub gives-as : {r : Answer} {left : List ℕ} {o o′ : Outcome} → o ≡ o′ → Gives r left o → Gives r left o′
 gives-as e g = rw e at g

@@ -13,6 +13,7 @@ use Rattle.model.specs.Turns.{amount, plus}
 use Rattle.model.specs.Refusals.{readNumber, rideNumber, totalNumber}
 use Rattle.model.specs.Calls.{viewOf, padded, asBegun, ride, read, totalUnlessRefused, totalOf}
 use Rattle.model.proofs.RefusalLaws.{count-bounds}
+use Rattle.model.proofs.LayoutLaws.{copy-room}
 use Rattle.model.proofs.TurnLaws.{Rode, ride-says}
 use Rattle.model.proofs.Demands.{every-call}
 use Rattle.lookup.proofs.Laws.{room}
@@ -30,20 +31,20 @@ module _ (d : Device) (image : List ℕ) (turns k : ℕ)
     rode : Rode (viewOf (d .plan) (d .phase) image) (copyOf (d .plan) image 0 copyA) turns
     rode = ride-says _ _ turns (sym e ∙ z)
 
-    part : take 8 (drop 1 image) ≡ copyOf (d .plan) image 0 copyA
+    part : take 8 (drop (d .plan .page) image) ≡ copyOf (d .plan) image 0 copyA
     part = total-part (d .plan) image (rode .wide)
 
     -- the total lies in the image, and the sum fits
-    pub ride-fits : (9 ≤ length image) × (amount (take 8 (drop 1 image)) + turns ≤ 18446744073709551615)
+    pub ride-fits : (d .plan .page + 8 ≤ length image) × (amount (take 8 (drop (d .plan .page) image)) + turns ≤ 18446744073709551615)
     unfolding rideNumber
     ride-fits =
         let l = live (d .plan) (d .phase) image k _ e z in
-        let first = count-bounds (d .plan) (room (d .plan) (d .phase) image l .ok) .0 in (
-          omega (arith, rode .wide, unit-inside (d .plan) (d .phase) image l 0 first),
+        let ok = room (d .plan) (d .phase) image l .ok in (
+          omega (arith, rode .wide, copy-room (d .plan) ok 0, unit-inside (d .plan) (d .phase) image l 0 (count-bounds (d .plan) ok .0)),
           omega (arith, ap amount part, ltb-false 18446744073709551615 (amount (copyOf (d .plan) image 0 copyA) + turns) (rode .room)),
         )
 
-    pub ride-accepted : (xs : List ℕ) → xs ≡ padded (plus (take 8 (drop 1 image)) turns)
+    pub ride-accepted : (xs : List ℕ) → xs ≡ padded (plus (take 8 (drop (d .plan .page) image)) turns)
         → Gives (record { number = 0; device = record { plan = d .plan; payload = xs; phase = Writing 0 0; stores = d .stores } }) image
         (ride (modelled d) image turns)
     unfolding ride

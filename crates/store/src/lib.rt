@@ -14,12 +14,12 @@ use format::zero_filled;
 use lookup::device_number;
 use lookup::plan_number;
 use lookup::span_of;
-use mirror::End;
-use mirror::store_on;
+use mirror::tear_on;
 use model::Inspection;
 use model::Phase;
 use model::Plan;
 use refusal::begin_number;
+use refusal::cut_number;
 use refusal::format_number;
 use refusal::read_number;
 use refusal::wake_number;
@@ -63,7 +63,8 @@ fn blank(plan: Plan, phase: Phase, stores: u32) -> Device
 }
 
 impl Device {
-    // A device for a plan: Cold, with a zero payload and no store counted. Refused (1, 2): the device that is all zeros.
+    // A device for a plan: Cold, with a zero payload and no store counted. Refused (1, 2, 17): the device that is all zeros but for a
+    // page of 1.
     pub fn start(plan: Plan) -> Answer
         ensures { λ r. ⌜ Starts r (start plan) ⌝ }
     {
@@ -72,6 +73,7 @@ impl Device {
             let none = Plan {
                 count: 0,
                 widths: [0u16; 8],
+                page: 1,
             };
             return Answer {
                 number: number,
@@ -148,7 +150,7 @@ impl Device {
                 device: self,
             };
         }
-        let summed = ridden(image, turns);
+        let summed = ridden(plan.page, image, turns);
         Answer {
             number: 0,
             device: Device {
@@ -233,22 +235,23 @@ impl Device {
         }
     }
 
-    // The device that a power cut leaves: the image has the next store, if there is one, torn by m. A torn store isn't counted.
-    // Refused: 1 to 4.
-    pub fn cut(self, image: &mut [u8], m: u8) -> Answer
-        ensures { λ r. ⌜ Gives r (now (image .exit)) (cut (modelled self) (now (image .entry)) m) ⌝ }
+    // The device that a power cut leaves: the page around the next store, if there is one, is torn, and has these bytes; but a marker
+    // goes bit by bit. A torn store isn't counted. Refused: 1 to 4, 17, and 18 for other than a page's number of bytes.
+    pub fn cut(self, image: &mut [u8], page: &[u8]) -> Answer
+        ensures { λ r. ⌜ Gives r (now (image .exit)) (cut (modelled self) (now (image .entry)) (now (page .entry))) ⌝ }
     {
         let plan = self.plan;
         let payload = self.payload;
         let phase = self.phase;
         let count = self.stores;
-        let number = store_on(plan, &payload, phase, &mut image[..], End::Torn(m));
+        let number = cut_number(plan, phase, &image[..], page.len());
         if number != 0 {
             return Answer {
                 number: number,
                 device: self,
             };
         }
+        tear_on(plan, &payload, phase, &mut image[..], page);
         let zeros = [0u8; 256];
         Answer {
             number: 0,

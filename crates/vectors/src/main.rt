@@ -1,5 +1,5 @@
 // Plays each script that an argument names, and prints what the bench prints of it, one after the other. The expected output is that
-// of two independent simulators.
+// of two independent simulators, and with pages that of a third, in simulator/.
 
 fn play_file(name: &[u8]) {
     let file = os::open_read(name);
@@ -10,7 +10,7 @@ fn play_file(name: &[u8]) {
     let mut text = [0u8; 65537];
     let count = io::read_full(file, &mut text);
     libc::close(file);
-    let mut image = [0u8; 4104];
+    let mut image = [0u8; 4224];
     let mut out = [0u8; 32768];
     play::run_all(&text[..count], &mut image, &mut out);
 }

@@ -9,7 +9,7 @@ use Rattle.layout.proofs.base_of.Statement.{statement}
 use Rattle.layout.proofs.base_of.Tie as tie
 
 abbrev Inv-loop : tie.InvT-loop
-Inv-loop plan unit sum₀ i₀ sum i = (i ≤ unit) × (sum ≡ base plan i) × (sum ≤ i * 131071)
+Inv-loop plan unit sum₀ i₀ sum i = (i ≤ unit) × (sum ≡ base plan i) × (sum ≤ i * 131116)
 
 abbrev μ-loop : tie.MeasureT-loop
 μ-loop plan unit sum₀ i₀ sum i = unit - i
@@ -18,7 +18,7 @@ loop-holds : tie.Need-loop-holds Inv-loop μ-loop
 loop-holds c = (omega arith, sym (base-none (c .args .plan)), omega arith)
 
 unit-length-requires : tie.Need-unit-length-requires Inv-loop μ-loop
-unit-length-requires c κs = search needs
+unit-length-requires c κs = c .before .before .pre
 
 add-sum : tie.Need-add-sum Inv-loop μ-loop
 add-sum c = search needs

@@ -3,7 +3,7 @@ use native.Mathlib.Omega.{arith}
 use mathlib.Core.Path.{ap, _∙_}
 use mathlib.Core.List.{List, _++_}
 use Prim.Native.Nat.{ℕ, _+_, _-_}
-use lib.ListN.{take, drop, set}
+use lib.ListN.{take, drop}
 use denote.Ref.{now}
 use Rattle.mirror.proofs.Part.{set-part}
 use borrow.Author.Needs.{needs}
@@ -15,15 +15,6 @@ cast-first c = search needs
 
 cast-past : tie.Need-cast-past
 cast-past c = search needs
-
-add-left-byte : tie.Need-add-left-byte
-add-left-byte c = search needs
-
-slice-read-left-byte : tie.Need-slice-read-left-byte
-slice-read-left-byte c = search needs
-
-left-byte-requires : tie.Need-left-byte-requires
-left-byte-requires c κs = search needs
 
 sub-put : tie.Need-sub-put
 sub-put c = search needs
@@ -41,13 +32,12 @@ same-length : tie.Need-same-length
 same-length c = search needs
 
 returns : tie.Need-returns
-returns c = let a = c .before .before .before .before .before .before .before .before .before .args in
+returns c = let a = c .before .before .before .before .before .before .before .args in
     let xs = now (a .image) in
     let s = a .span in
     let size = s .end - s .base in
     ap (λ (t : List ℕ). take (s .base) xs ++ (t ++ drop size (drop (s .base) xs))) (c .before .before .put .ensures)
-    ∙ set-part xs (s .base) size (a .at) _ (omega (arith, c .before .before .before .before .before .before .before .before .before .pre)) (omega (arith, c .before .before .before .before .before .before .before .before .before .pre))
-    ∙ ap (set xs (s .base + a .at)) (c .before .before .before .before .left-byte .ensures)
+    ∙ set-part xs (s .base) size (a .at) (a .byte) (omega (arith, c .before .before .before .before .before .before .before .pre)) (omega (arith, c .before .before .before .before .before .before .before .pre))
 
 pub store-at-spec : {M : Type 1} → statement M
 store-at-spec =
@@ -55,9 +45,6 @@ store-at-spec =
     (tie.spec
     cast-first
     cast-past
-    add-left-byte
-    slice-read-left-byte
-    left-byte-requires
     sub-put
     part-put-start
     part-put-end

@@ -3,6 +3,7 @@ use native.Mathlib.Omega.{arith}
 use mathlib.Core.Path.{sym}
 use lib.Seq.{length-take-le}
 use borrow.Author.Needs.{needs}
+use Rattle.model.proofs.RefusalLaws.{start-says}
 use Rattle.play.proofs.Bounds.{accepted, total-most}
 use Rattle.play.proofs.open.Statement.{statement}
 use Rattle.play.proofs.open.Tie as tie
@@ -14,7 +15,9 @@ returns : tie.Need-returns
 returns c = search needs
 
 base-of-requires : tie.Need-base-of-requires
-base-of-requires c κs = search needs
+base-of-requires c κs =
+    let p = c .before .before .before .before .args .plan in
+    start-says p (accepted p _ (c .before .before .start .ensures) (c .if1 .left)) .page
 
 slice-relend-prefix-format : tie.Need-slice-relend-prefix-format
 slice-relend-prefix-format c =

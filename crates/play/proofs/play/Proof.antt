@@ -2,7 +2,7 @@
 use mathlib.Core.Path.{refl, _∙_, ap}
 use borrow.Author.Needs.{needs}
 use Rattle.script.specs.declared.Line.the-variants.{Is}
-use Rattle.script.proofs.Counts.{write-count}
+use Rattle.script.proofs.Counts.{write-count, cut-count}
 use Rattle.play.specs.Plays.{plays}
 use Rattle.play.proofs.Told.{told}
 use Rattle.play.proofs.play.Statement.{statement}
@@ -42,7 +42,7 @@ slice-aggregate-tell-3 : tie.Need-slice-aggregate-tell-3
 slice-aggregate-tell-3 c = search needs
 
 cut-requires : tie.Need-cut-requires
-cut-requires c κs = search needs
+cut-requires c κs = cut-count _ _ _ (c .before .before .before .before .before .before .before .before .pre .0 ∙ ap Is (c .before .before .before .form3 .given .1))
 
 tell-requires-3 : tie.Need-tell-requires-3
 tell-requires-3 c κs = search needs

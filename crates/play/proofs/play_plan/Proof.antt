@@ -4,6 +4,7 @@ use native.Mathlib.Omega.{arith}
 use mathlib.Core.Path.{sym}
 use lib.Seq.{length-take-le}
 use borrow.Author.Needs.{needs}
+use Rattle.model.proofs.RefusalLaws.{start-says}
 use Rattle.play.proofs.Bounds.{total-most}
 use Rattle.play.proofs.play_plan.Statement.{statement}
 use Rattle.play.proofs.play_plan.Tie as tie
@@ -30,7 +31,7 @@ returns : tie.Need-returns
 returns c = search needs
 
 base-of-requires : tie.Need-base-of-requires
-base-of-requires c κs = search needs
+base-of-requires c κs = start-says _ (c .before .before .before .before .before .before .before .before .before .before .before .«open» .ensures (c .before .if1 .left)) .page
 
 slice-relend-prefix-play-lines : tie.Need-slice-relend-prefix-play-lines
 slice-relend-prefix-play-lines c = omega (arith, c .base-of .ensures .0, total-most _ (c .before .before .before .before .before .before .before .before .before .before .before .before .«open» .ensures (c .before .before .if1 .left)))

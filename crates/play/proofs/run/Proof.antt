@@ -68,10 +68,10 @@ part-widths-at-end c =
 widths-at-requires : tie.Need-widths-at-requires
 widths-at-requires c κs = search needs
 
-cast-t23 : tie.Need-cast-t23
-cast-t23 c =
+cast-t24 : tie.Need-cast-t24
+cast-t24 c =
     let f = read-found _ _ _ _ _ (sym (c .before .before .before .before .before .before .before .before .read-line .ensures) ∙ c .before .before .before .before .before .before .read .given .1) in
-    let few = plan-count _ _ _ (f .says ∙ ap Is (c .before .before .before .form .given .1)) in
+    let few = plan-count _ _ _ _ (f .says ∙ ap Is (c .before .before .before .form .given .1)) in
     search needs
 
 add-play-plan : tie.Need-add-play-plan
@@ -115,7 +115,7 @@ run-spec =
     part-widths-at-start
     part-widths-at-end
     widths-at-requires
-    cast-t23
+    cast-t24
     add-play-plan
     play-plan-requires
     same-length-4

@@ -1,17 +1,13 @@
 -- `play::write` meets its contract: the payload's front is what the line lists.
 use native.Mathlib.Omega.{arith}
-use mathlib.Core.Path.{sym, _∙_, ap}
 use mathlib.Core.List.{List}
 use Prim.Native.Nat.{ℕ}
-use lib.ListN.{take}
-use lib.Seq.{length-take-le, length-sets}
+use lib.Seq.{length-sets}
 use denote.Ref.{now}
 use borrow.Author.Needs.{needs}
 use Rattle.model.specs.Calls.{begin}
-use Rattle.list.specs.declared.Kind.the-variants.{Byte}
-use Rattle.list.proofs.Values.{values-front}
 use Rattle.store.specs.Modelled.{modelled}
-use Rattle.store.proofs.Laws.{gives-as}
+use Rattle.play.proofs.Listed.{front-length, with-listed}
 use Rattle.play.proofs.write.Statement.{statement}
 use Rattle.play.proofs.write.Tie as tie
 
@@ -25,7 +21,7 @@ array-share-prefix-payload : tie.Need-array-share-prefix-payload
 array-share-prefix-payload c = search needs
 
 slice-aggregate-begin : tie.Need-slice-aggregate-begin
-slice-aggregate-begin c = sym (length-take-le _ _ (simp (c .before .before .bytes-into .ensures) (simp length-sets (omega arith))))
+slice-aggregate-begin c = front-length _ _ 256 _ (c .before .before .bytes-into .ensures) (simp length-sets (search needs)) (omega arith)
 
 begin-requires : tie.Need-begin-requires
 begin-requires c κs = search needs
@@ -33,8 +29,8 @@ begin-requires c κs = search needs
 returns : tie.Need-returns
 returns c =
     let a = c .before .before .before .before .before .before .before .args in
-    gives-as (ap (λ (t : List ℕ). begin (modelled (a .device)) (now (a .image)) (a .unit) t)
-    (ap (λ (t : List ℕ). take (a .count) t) (c .before .before .before .bytes-into .ensures) ∙ values-front Byte (now (a .line)) _ (a .at) (a .count) (omega arith))) (c .begin .ensures)
+    with-listed (λ (t : List ℕ). begin (modelled (a .device)) (now (a .image)) (a .unit) t) (now (a .line)) _ _ (a .at) (a .count)
+    (c .before .before .before .bytes-into .ensures) (omega arith) (c .begin .ensures)
 
 pub write-spec : {M : Type 1} → statement M
 write-spec =

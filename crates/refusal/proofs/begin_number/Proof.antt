@@ -44,7 +44,8 @@ returns-3 c = let a = c .before .before .before .before .before .before .before 
     ∙ first-stop 7 _ _ (ap not (ne-eqb (a .size) (width (a .plan) (a .unit)) (λ q. absurd (omega (arith, c .if3 .taken, c .before .width-of .ensures, q))))))
 
 base-of-requires : tie.Need-base-of-requires
-base-of-requires c κs = search needs
+base-of-requires c κs = let a = c .before .before .before .before .before .before .before .args in
+    room (a .plan) (a .phase) (now (a .image)) (live (a .plan) (a .phase) (now (a .image)) _ _ (c .before .before .before .before .before .ready-number .ensures) (c .before .before .before .before .if1 .left)) .ok .page
 
 shared-slice-read-if4 : tie.Need-shared-slice-read-if4
 shared-slice-read-if4 c = let a = c .before .before .before .before .before .before .before .before .before .args in

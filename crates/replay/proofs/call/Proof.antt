@@ -16,9 +16,6 @@ returns : tie.Need-returns
 unfolding call callOf
 returns c = rw (eq-eqb _ 1 (c .before .before .if1 .taken)) (c .begin .ensures)
 
-first-of-requires : tie.Need-first-of-requires
-first-of-requires c κs = search needs
-
 cut-requires : tie.Need-cut-requires
 cut-requires c κs = search needs
 
@@ -27,7 +24,7 @@ same-length-2 c = search needs
 
 returns-2 : tie.Need-returns-2
 unfolding call callOf
-returns-2 c = rw (ne-eqb _ 1 (c .before .before .before .before .before .before .if1 .left), eq-eqb _ 2 (c .before .before .before .before .before .if2 .taken), ← c .before .before .before .first-of .ensures) (c .before .before .cut .ensures)
+returns-2 c = rw (ne-eqb _ 1 (c .before .before .before .before .before .if1 .left), eq-eqb _ 2 (c .before .before .before .before .if2 .taken)) (c .before .before .cut .ensures)
 
 wake-requires : tie.Need-wake-requires
 wake-requires c κs = search needs
@@ -69,7 +66,6 @@ call-spec =
     begin-requires
     same-length
     returns
-    first-of-requires
     cut-requires
     same-length-2
     returns-2

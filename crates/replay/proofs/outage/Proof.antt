@@ -17,8 +17,8 @@ same-length c = search needs
 
 returns : tie.Need-returns
 returns c =
-    let a = c .before .before .before .before .before .before .before .before .before .before .args in
-    restored (a .plan) (now (a .image)) (callsOf (now (a .calls))) (a .m) _ _ _ (c .before .before .before .before .before .before .until-cut .ensures) (c .before .before .come-back .ensures)
+    let a = c .before .before .before .before .before .before .before .before .before .before .before .args in
+    restored (a .plan) (now (a .image)) (callsOf (now (a .calls))) (now (a .page)) _ _ _ (c .before .before .before .before .before .before .until-cut .ensures) (c .before .before .come-back .ensures)
 
 pub outage-spec : {M : Type 1} → statement M
 outage-spec = tie.close (tie.spec until-cut-requires come-back-requires same-length returns)

@@ -23,8 +23,8 @@ same-length c = search needs
 
 returns : tie.Need-returns
 returns c =
-    let a = c .before .before .before .before .before .before .before .before .before .before .before .before .before .before .before .args in
-    cut-off (a .plan) (now (a .image)) (callsOf (now (a .calls))) (a .m) _ _ _ _ _ _ _ (c .before .before .before .before .before .before .before .before .before .before .before .before .start .ensures) (c .before .before .before .before .before .before .before .before .before .before .format .ensures)
+    let a = c .before .before .before .before .before .before .before .before .before .before .before .before .before .before .before .before .args in
+    cut-off (a .plan) (now (a .image)) (callsOf (now (a .calls))) (now (a .page)) _ _ _ _ _ _ _ (c .before .before .before .before .before .before .before .before .before .before .before .before .start .ensures) (c .before .before .before .before .before .before .before .before .before .before .format .ensures)
     (c .before .before .before .before .before .before .replay .ensures) (c .before .before .cut .ensures)
 
 pub until-cut-spec : {M : Type 1} → statement M

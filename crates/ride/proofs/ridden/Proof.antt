@@ -1,11 +1,17 @@
 -- `ride::ridden` meets its contract.
+use native.Mathlib.Omega.{arith}
 use mathlib.Core.Path.{ap, _∙_}
 use Prim.Native.Nat.{ℕ, _+_}
-use borrow.Author.Needs.{needs}
+use denote.Ref.{now}
 use Rattle.model.specs.Turns.{inBytes, plus}
 use Rattle.model.specs.Calls.{padded}
+use Rattle.ride.proofs.Laws.{eight-from}
+use borrow.Author.Needs.{needs}
 use Rattle.ride.proofs.ridden.Statement.{statement}
 use Rattle.ride.proofs.ridden.Tie as tie
+
+add-amount-of : tie.Need-add-amount-of
+add-amount-of c = search needs
 
 sub-amount-of : tie.Need-sub-amount-of
 sub-amount-of c = search needs
@@ -20,7 +26,8 @@ amount-of-requires : tie.Need-amount-of-requires
 amount-of-requires c κs = search needs
 
 add-bytes-of : tie.Need-add-bytes-of
-add-bytes-of c = search needs
+add-bytes-of c = let a = c .before .before .before .args in
+    record { fits = omega (arith, c .amount-of .ensures, eight-from (a .page) (now (a .image)), c .before .before .before .pre .1) }
 
 bytes-of-requires : tie.Need-bytes-of-requires
 bytes-of-requires c κs = search needs
@@ -33,12 +40,14 @@ zero-filled-requires c κs = search needs
 
 returns : tie.Need-returns
 unfolding plus
-returns c = c .zero-filled .ensures ∙ ap padded (c .before .before .bytes-of .ensures ∙ ap (λ (n : ℕ). inBytes 8 (n + c .before .before .before .before .before .before .args .turns)) (c .before .before .before .amount-of .ensures))
+returns c = let a = c .before .before .before .before .before .before .args in
+    c .zero-filled .ensures ∙ ap padded (c .before .before .bytes-of .ensures ∙ ap (λ (n : ℕ). inBytes 8 (n + a .turns)) (c .before .before .before .amount-of .ensures ∙ eight-from (a .page) (now (a .image))))
 
 pub ridden-spec : {M : Type 1} → statement M
 ridden-spec =
     tie.close
     (tie.spec
+    add-amount-of
     sub-amount-of
     part-amount-of-start
     part-amount-of-end

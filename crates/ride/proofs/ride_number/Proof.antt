@@ -1,8 +1,10 @@
 -- `ride::ride_number` meets its contract: the row of a ride, number by number.
 use native.Mathlib.Omega.{arith}
 use denote.Ref.{now}
+use mathlib.Core.Path.{_∙_}
+use Prim.Native.Nat.{_-_}
+use Rattle.ride.proofs.Laws.{ride-early, other-width, total-inside, bad-mark, too-large, fits, eight-from}
 use borrow.Author.Needs.{needs}
-use Rattle.ride.proofs.Laws.{ride-early, other-width, total-inside, bad-mark, too-large, fits}
 use Rattle.ride.proofs.ride_number.Statement.{statement}
 use Rattle.ride.proofs.ride_number.Tie as tie
 
@@ -28,6 +30,12 @@ returns-3 : tie.Need-returns-3
 returns-3 c = let a = c .before .before .before .before .before .before .before .args in
     bad-mark (a .plan) (a .phase) (now (a .image)) (a .turns) _ (c .before .before .before .before .before .ready-number .ensures) (c .before .before .before .before .if1 .left) (omega (arith, c .before .before .if2 .left, c .before .before .before .width-of .ensures)) (c .if3 .taken)
 
+cast-first : tie.Need-cast-first
+cast-first c = search needs
+
+add-amount-of : tie.Need-add-amount-of
+add-amount-of c = search needs
+
 sub-amount-of : tie.Need-sub-amount-of
 sub-amount-of c = search needs
 
@@ -35,8 +43,8 @@ part-amount-of-start : tie.Need-part-amount-of-start
 part-amount-of-start c = search needs
 
 part-amount-of-end : tie.Need-part-amount-of-end
-part-amount-of-end c = let a = c .before .before .before .before .before .before .before .args in
-    omega (arith, total-inside (a .plan) (a .phase) (now (a .image)) (a .turns) _ (c .before .before .before .before .before .ready-number .ensures) (c .before .before .before .before .if1 .left) (omega (arith, c .before .before .if2 .left, c .before .before .before .width-of .ensures)))
+part-amount-of-end c = let a = c .before .before .before .before .before .before .before .before .args in
+    omega (arith, total-inside (a .plan) (a .phase) (now (a .image)) (a .turns) _ (c .before .before .before .before .before .before .ready-number .ensures) (c .before .before .before .before .before .if1 .left) (omega (arith, c .before .before .before .if2 .left, c .before .before .before .before .width-of .ensures)))
 
 amount-of-requires : tie.Need-amount-of-requires
 amount-of-requires c κs = search needs
@@ -45,12 +53,12 @@ sub-if4 : tie.Need-sub-if4
 sub-if4 c = search needs
 
 returns-4 : tie.Need-returns-4
-returns-4 c = let a = c .before .before .before .before .before .before .before .before .before .before .args in
-    too-large (a .plan) (a .phase) (now (a .image)) (a .turns) _ (c .before .before .before .before .before .before .before .before .ready-number .ensures) (c .before .before .before .before .before .before .before .if1 .left) (omega (arith, c .before .before .before .before .before .if2 .left, c .before .before .before .before .before .before .width-of .ensures)) (c .before .before .before .if3 .left) _ (c .before .amount-of .ensures) (omega (arith, c .if4 .taken))
+returns-4 c = let a = c .before .before .before .before .before .before .before .before .before .before .before .args in
+    too-large (a .plan) (a .phase) (now (a .image)) (a .turns) _ (c .before .before .before .before .before .before .before .before .before .ready-number .ensures) (c .before .before .before .before .before .before .before .before .if1 .left) (omega (arith, c .before .before .before .before .before .before .if2 .left, c .before .before .before .before .before .before .before .width-of .ensures)) (c .before .before .before .before .if3 .left) _ (c .before .amount-of .ensures ∙ eight-from (a .plan .page) (now (a .image))) (omega (arith, c .if4 .taken))
 
 returns-5 : tie.Need-returns-5
-returns-5 c = let a = c .before .before .before .before .before .before .before .before .before .before .args in
-    fits (a .plan) (a .phase) (now (a .image)) (a .turns) _ (c .before .before .before .before .before .before .before .before .ready-number .ensures) (c .before .before .before .before .before .before .before .if1 .left) (omega (arith, c .before .before .before .before .before .if2 .left, c .before .before .before .before .before .before .width-of .ensures)) (c .before .before .before .if3 .left) _ (c .before .amount-of .ensures) (omega (arith, c .if4 .left))
+returns-5 c = let a = c .before .before .before .before .before .before .before .before .before .before .before .args in
+    fits (a .plan) (a .phase) (now (a .image)) (a .turns) _ (c .before .before .before .before .before .before .before .before .before .ready-number .ensures) (c .before .before .before .before .before .before .before .before .if1 .left) (omega (arith, c .before .before .before .before .before .before .if2 .left, c .before .before .before .before .before .before .before .width-of .ensures)) (c .before .before .before .before .if3 .left) _ (c .before .amount-of .ensures ∙ eight-from (a .plan .page) (now (a .image))) (omega (arith, c .if4 .left))
 
 pub ride-number-spec : {M : Type 1} → statement M
 ride-number-spec =
@@ -62,6 +70,8 @@ ride-number-spec =
     returns-2
     shared-slice-read-if3
     returns-3
+    cast-first
+    add-amount-of
     sub-amount-of
     part-amount-of-start
     part-amount-of-end

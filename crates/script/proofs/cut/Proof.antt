@@ -14,16 +14,12 @@ word-requires c κs = search needs
 hex-requires : tie.Need-hex-requires
 hex-requires c κs = search needs
 
-cast-t7 : tie.Need-cast-t7
-cast-t7 c = search needs
-
 closed-requires : tie.Need-closed-requires
 closed-requires c κs = search needs
 
 returns : tie.Need-returns
-returns c = c .closed .ensures ∙ cut-read _ _ _ (c .before .before .before .word .ensures) (c .before .before .hex .ensures .0)
+returns c = c .closed .ensures ∙ cut-read _ _ _ (c .before .before .word .ensures) (c .before .hex .ensures .0)
 
 pub cut-spec : {M : Type 1} → statement M
 cut-spec =
-    tie.close
-    (tie.spec slice-aggregate-word word-requires hex-requires cast-t7 closed-requires returns)
+    tie.close (tie.spec slice-aggregate-word word-requires hex-requires closed-requires returns)

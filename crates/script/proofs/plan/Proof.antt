@@ -17,10 +17,23 @@ list-at-requires c κs = search needs
 closed-requires : tie.Need-closed-requires
 closed-requires c κs = search needs
 
+paged-requires : tie.Need-paged-requires
+paged-requires c κs = search needs
+
+or-requires : tie.Need-or-requires
+or-requires c κs = search needs
+
 returns : tie.Need-returns
-returns c = c .closed .ensures ∙ plan-read _ _ _ (c .before .before .word .ensures) (c .before .list-at .ensures)
+returns c = c .or .ensures ∙ rw (c .before .paged .ensures, c .before .before .closed .ensures) (plan-read _ _ _ (c .before .before .before .before .word .ensures) (c .before .before .before .list-at .ensures))
 
 pub plan-spec : {M : Type 1} → statement M
 plan-spec =
     tie.close
-    (tie.spec slice-aggregate-word word-requires list-at-requires closed-requires returns)
+    (tie.spec
+    slice-aggregate-word
+    word-requires
+    list-at-requires
+    closed-requires
+    paged-requires
+    or-requires
+    returns)
