@@ -55,7 +55,8 @@ pub record Does (P : Outcome → Type 0) (d : Device) (image : List ℕ) (o : Ou
   pub accepted : o .number ≡ 0 → P o
   pub refused : ¬ (o .number ≡ 0) → o ≡ outcome (o .number) d image
 
--- "start's refusal returns k = 0, all widths 0, Cold, zero payload"; Ticket 9: "p = 1, as in a refused start". Accepted, it "keeps the plan as given".
+-- "start's refusal returns k = 0, all widths 0, Cold, zero payload"; Ticket 9: "p = 1, as in a refused start". Accepted, it "keeps
+-- the plan as given".
 pub record Starts (p : Plan) (a : Answer) : Type 0 where
   pub kept : a .number ≡ 0 → a .device .plan ≡ p
   pub count : ¬ (a .number ≡ 0) → a .device .plan .count ≡ 0
