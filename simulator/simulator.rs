@@ -7,17 +7,20 @@
 //! Build: `rustc --edition 2021 -O -o simulator simulator.rs`
 //!
 //! With the argument `looks` a script may also ask for what no bench script
-//! reaches: the brake drive, read and inspect. With `--selftest` it tries
-//! itself on cases worked out by hand.
+//! reaches: the brake drive, read and inspect. With `lists` it plays lists of
+//! calls in a binary form, rides and groups among them, and with `together` it
+//! tells what stands after a power cut at every place of a group. With
+//! `--selftest` it tries itself on cases worked out by hand, and the claims
+//! about groups on lists made at random.
 
 use std::io::{self, Read, Write};
-use std::ops::Range;
+use std::ops::{Range, RangeInclusive};
 use std::process::ExitCode;
 
 // ---------------------------------------------------------------- refusals
 
 /// Why a call was refused; the value is the answer number.
-#[derive(Clone, Copy)]
+#[derive(Clone, Copy, PartialEq, Debug)]
 enum Refusal {
     UnitCount = 1,
     UnitWidth = 2,
@@ -30,8 +33,13 @@ enum Refusal {
     Level = 9,
     Rate = 10,
     ForeignMarker = 14,
+    TooManyTurns = 15,
+    NoTotal = 16,
     PageSize = 17,
     CutLength = 18,
+    NotMembers = 19,
+    TwiceOrRecord = 20,
+    NoRoom = 21,
 }
 
 type Answer = Result<(), Refusal>;
@@ -45,7 +53,8 @@ fn number(answer: Answer) -> u8 {
 
 /// Refuses when the condition holds. Each call lists its refusals in the order
 /// in which they are tested, so that the first one met is given: 1 to 10 in
-/// rising order, 14 after 5, 17 after 2 and 18 after 4.
+/// rising order, 14 and 16 after 5, 15 after 8, 17 after 2, 18 after 4, and 19
+/// to 21 after 6.
 fn refuse_if(condition: bool, refusal: Refusal) -> Answer {
     if condition {
         Err(refusal)
@@ -76,7 +85,7 @@ const PAGE_SIZES: [usize; 4] = [1, 4, 8, 16];
 /// "No page means p = 1."
 const NO_PAGE: u16 = 1;
 
-#[derive(Clone, Copy)]
+#[derive(Clone, Copy, PartialEq, Debug)]
 struct Plan {
     /// As the script gave it, so it may be refused as above 8.
     count: usize,
@@ -87,6 +96,9 @@ struct Plan {
 }
 
 impl Plan {
+    /// What a refused start returns.
+    const NONE: Plan = Plan { count: 0, widths: [0; MAX_UNITS], page: NO_PAGE as usize };
+
     /// The first eight script widths are the plan's; all of them count.
     fn from_script(script_widths: &[u16], page: u16) -> Plan {
         let mut widths = [0; MAX_UNITS];
@@ -151,18 +163,23 @@ impl Plan {
 
 // ------------------------------------------------------------------- phase
 
-#[derive(Clone, Copy)]
+#[derive(Clone, Copy, PartialEq, Debug)]
 enum Direction {
     AToB,
     BToA,
 }
 
-#[derive(Clone, Copy)]
+#[derive(Clone, Copy, PartialEq, Debug)]
 enum Phase {
     Cold,
     Ready,
     Writing { unit: usize, made: usize },
     Recovering { unit: usize, made: usize, direction: Direction },
+    /// "A group phase .. holds the write it is at and the stores made there":
+    /// write 0 is the record's, then come the members', then that of zeros.
+    /// The members written again from a standing record are the same, from
+    /// write 1 on.
+    Grouping { write: usize, made: usize },
 }
 
 fn stores_of_write(width: usize) -> usize {
@@ -171,19 +188,6 @@ fn stores_of_write(width: usize) -> usize {
 
 fn stores_of_cleanup(width: usize) -> usize {
     width + 1
-}
-
-impl Phase {
-    /// Only a phase built by hand can fail this; no script can reach one.
-    fn check(&self, plan: &Plan) -> Answer {
-        let (unit, made, total): (usize, usize, fn(usize) -> usize) = match *self {
-            Phase::Cold | Phase::Ready => return Ok(()),
-            Phase::Writing { unit, made } => (unit, made, stores_of_write),
-            Phase::Recovering { unit, made, .. } => (unit, made, stores_of_cleanup),
-        };
-        let out_of_range = unit >= plan.count || made >= total(plan.width(unit));
-        refuse_if(out_of_range, Refusal::PhaseOutOfRange)
-    }
 }
 
 // ------------------------------------------------------------------- store
@@ -223,12 +227,55 @@ impl Store {
     }
 }
 
+// ------------------------------------------------------------------- group
+
+/// "The bytes of 2 to 4 members".
+const MEMBER_COUNTS: RangeInclusive<usize> = 2..=4;
+
+/// What the last write of a group stores, "a record of zeros".
+const ZEROS: [u8; MAX_WIDTH] = [0; MAX_WIDTH];
+
+/// "Each a unit number byte and that unit's payload".
+#[derive(Clone, Copy, PartialEq, Debug)]
+struct Member<'a> {
+    unit: usize,
+    payload: &'a [u8],
+}
+
+/// Takes one member off the front of the bytes; none if its unit is not below
+/// k or its payload is not all there.
+fn first_member<'a>(plan: &Plan, bytes: &'a [u8]) -> Option<(Member<'a>, &'a [u8])> {
+    let (&number, rest) = bytes.split_first()?;
+    let unit = usize::from(number);
+    if unit >= plan.count || rest.len() < plan.width(unit) {
+        return None;
+    }
+    let (payload, rest) = rest.split_at(plan.width(unit));
+    Some((Member { unit, payload }, rest))
+}
+
+/// All the bytes as members, however many; none if they don't split.
+fn split<'a>(plan: &Plan, mut bytes: &'a [u8]) -> Option<Vec<Member<'a>>> {
+    let mut members = Vec::new();
+    while !bytes.is_empty() {
+        let (member, rest) = first_member(plan, bytes)?;
+        members.push(member);
+        bytes = rest;
+    }
+    Some(members)
+}
+
 // ------------------------------------------------------------------ device
 
+#[derive(Clone, PartialEq, Debug)]
 struct Device {
     plan: Plan,
+    /// "A device may be started as grouped".
+    grouped: bool,
     payload: [u8; MAX_WIDTH],
     phase: Phase,
+    /// "A 32-bit count of completed stores", which holds at the greatest.
+    stores: u32,
 }
 
 impl Device {
@@ -237,30 +284,105 @@ impl Device {
     fn check(&self, image: &[u8]) -> Answer {
         self.plan.check()?;
         refuse_if(image.len() < self.plan.image_length(), Refusal::ShortImage)?;
-        self.phase.check(&self.plan)
+        self.check_phase()
+    }
+
+    /// Only a phase built by hand can fail this; no script and no list can
+    /// reach one. In a group phase the write's own unit sets the total.
+    fn check_phase(&self) -> Answer {
+        let (unit, made, total): (usize, usize, fn(usize) -> usize) = match self.phase {
+            Phase::Cold | Phase::Ready => return Ok(()),
+            Phase::Writing { unit, made } => (unit, made, stores_of_write),
+            Phase::Recovering { unit, made, .. } => (unit, made, stores_of_cleanup),
+            Phase::Grouping { write, made } => {
+                let (unit, _) = self.group_write(write).ok_or(Refusal::PhaseOutOfRange)?;
+                (unit, made, stores_of_write)
+            }
+        };
+        let out_of_range = unit >= self.plan.count || made >= total(self.plan.width(unit));
+        refuse_if(out_of_range, Refusal::PhaseOutOfRange)
     }
 
     fn marker(&self, unit: usize, image: &[u8]) -> u8 {
         image[self.plan.marker_place(unit)]
     }
 
+    /// The group record: a grouped device's "last unit".
+    fn record_unit(&self) -> Option<usize> {
+        self.grouped.then(|| self.plan.count - 1)
+    }
+
+    /// The members of a group with these bytes, or the first of 19, 20 and 21
+    /// that applies. The record takes a byte more than the members do.
+    fn members<'a>(&self, bytes: &'a [u8]) -> Result<Vec<Member<'a>>, Refusal> {
+        let members = split(&self.plan, bytes)
+            .filter(|members| MEMBER_COUNTS.contains(&members.len()))
+            .ok_or(Refusal::NotMembers)?;
+        for (i, member) in members.iter().enumerate() {
+            let twice = members[..i].iter().any(|other| other.unit == member.unit);
+            let is_record = self.record_unit() == Some(member.unit);
+            refuse_if(twice || is_record, Refusal::TwiceOrRecord)?;
+        }
+        let record_unit = self.record_unit().ok_or(Refusal::NoRoom)?;
+        refuse_if(self.plan.width(record_unit) < 1 + bytes.len(), Refusal::NoRoom)?;
+        Ok(members)
+    }
+
+    /// The members of the group that gives this record, "the member count, the
+    /// members, then zeros"; none if "no group passing 19 to 21 gives" it.
+    fn members_of_record<'a>(&self, record: &'a [u8]) -> Option<Vec<Member<'a>>> {
+        let (&count, bytes) = record.split_first()?;
+        let mut rest = bytes;
+        for _ in 0..count {
+            rest = first_member(&self.plan, rest)?.1;
+        }
+        let (group, zeros) = bytes.split_at(bytes.len() - rest.len());
+        let members = self.members(group).ok()?;
+        zeros.iter().all(|&byte| byte == 0).then_some(members)
+    }
+
+    /// The record in copy A, if some group gives it.
+    fn standing_record<'a>(&self, image: &'a [u8]) -> Option<&'a [u8]> {
+        let record = &image[self.plan.copy_a(self.record_unit()?)];
+        self.members_of_record(record).map(|_| record)
+    }
+
+    /// The unit that a group's write is of and what it stores there. None past
+    /// the last write, and none at all on an ungrouped device or if the payload
+    /// is no group's record with zeros after it.
+    fn group_write(&self, write: usize) -> Option<(usize, &[u8])> {
+        let record_unit = self.record_unit()?;
+        let members = self.members_of_record(&self.payload)?;
+        if write == 0 {
+            return Some((record_unit, &self.payload));
+        }
+        if write == members.len() + 1 {
+            return Some((record_unit, &ZEROS));
+        }
+        members.get(write - 1).map(|member| (member.unit, member.payload))
+    }
+
     /// The store that step makes and cut tears; none in Cold and Ready.
     fn next_store(&self, image: &[u8]) -> Option<Store> {
         match self.phase {
             Phase::Cold | Phase::Ready => None,
-            Phase::Writing { unit, made } => Some(self.write_store(unit, made)),
+            Phase::Writing { unit, made } => Some(self.write_store(unit, made, &self.payload)),
             Phase::Recovering { unit, made, direction } => {
                 Some(self.cleanup_store(unit, made, direction, image))
+            }
+            Phase::Grouping { write, made } => {
+                let (unit, bytes) = self.group_write(write)?;
+                Some(self.write_store(unit, made, bytes))
             }
         }
     }
 
     /// Marker 2, copy A, marker 4, copy B, marker 1.
-    fn write_store(&self, unit: usize, made: usize) -> Store {
+    fn write_store(&self, unit: usize, made: usize, bytes: &[u8]) -> Store {
         let w = self.plan.width(unit);
         let marker = self.plan.marker_place(unit);
-        let to_a = |i| Store::data(self.plan.copy_a(unit).start + i, self.payload[i]);
-        let to_b = |i| Store::data(self.plan.copy_b(unit).start + i, self.payload[i]);
+        let to_a = |i| Store::data(self.plan.copy_a(unit).start + i, bytes[i]);
+        let to_b = |i| Store::data(self.plan.copy_b(unit).start + i, bytes[i]);
         if made == 0 {
             Store::marker(marker, WRITING_A)
         } else if made <= w {
@@ -288,55 +410,83 @@ impl Device {
         }
     }
 
-    /// The cleanup of the lowest unit from `first` on whose marker isn't 1,
-    /// or Ready. Its marker as it is now sets the direction.
-    fn cleanup_from(&self, first: usize, image: &[u8]) -> Phase {
+    /// The cleanup of the lowest unit from `first` on whose marker isn't 1, if
+    /// there is one. Its marker as it is now sets the direction.
+    fn cleanup_from(&self, first: usize, image: &[u8]) -> Option<Phase> {
         for unit in first..self.plan.count {
             let direction = match self.marker(unit, image) {
                 OK => continue,
                 WRITING_A => Direction::BToA,
                 _ => Direction::AToB,
             };
-            return Phase::Recovering { unit, made: 0, direction };
+            return Some(Phase::Recovering { unit, made: 0, direction });
         }
-        Phase::Ready
+        None
     }
 
-    /// The phase once the store at hand has been made.
-    fn phase_after_store(&self, image: &[u8]) -> Phase {
+    /// Goes on to that cleanup; "once done" to the members of a standing
+    /// record, which becomes the payload; and otherwise to Ready.
+    fn recover_from(&mut self, first: usize, image: &[u8]) {
+        if let Some(cleanup) = self.cleanup_from(first, image) {
+            self.phase = cleanup;
+        } else if let Some(record) = self.standing_record(image) {
+            self.take_payload(record);
+            self.phase = Phase::Grouping { write: 1, made: 0 };
+        } else {
+            self.phase = Phase::Ready;
+        }
+    }
+
+    /// Goes on to the phase once the store at hand has been made.
+    fn go_on(&mut self, image: &[u8]) {
         match self.phase {
+            Phase::Cold | Phase::Ready => {}
             Phase::Writing { unit, made } => {
-                if made + 1 == stores_of_write(self.plan.width(unit)) {
-                    Phase::Ready
-                } else {
-                    Phase::Writing { unit, made: made + 1 }
-                }
+                let whole = made + 1 == stores_of_write(self.plan.width(unit));
+                self.phase =
+                    if whole { Phase::Ready } else { Phase::Writing { unit, made: made + 1 } };
             }
             Phase::Recovering { unit, made, direction } => {
                 if made + 1 == stores_of_cleanup(self.plan.width(unit)) {
-                    self.cleanup_from(unit + 1, image)
+                    self.recover_from(unit + 1, image);
                 } else {
-                    Phase::Recovering { unit, made: made + 1, direction }
+                    self.phase = Phase::Recovering { unit, made: made + 1, direction };
                 }
             }
-            idle => idle,
+            Phase::Grouping { write, made } => {
+                let total = |(unit, _)| stores_of_write(self.plan.width(unit));
+                self.phase = if self.group_write(write).map(total) != Some(made + 1) {
+                    Phase::Grouping { write, made: made + 1 }
+                } else if self.group_write(write + 1).is_some() {
+                    Phase::Grouping { write: write + 1, made: 0 }
+                } else {
+                    Phase::Ready
+                };
+            }
         }
+    }
+
+    /// "The payload goes into the device, zeros after it".
+    fn take_payload(&mut self, payload: &[u8]) {
+        self.payload.fill(0);
+        self.payload[..payload.len()].copy_from_slice(payload);
     }
 }
 
 // ------------------------------------------------------------------- calls
 // Each changes the device and the image only if it is accepted.
 
-/// The bench program drops the device of a refused start, so none is made.
-fn start(plan: Plan) -> Result<Device, Refusal> {
-    plan.check()?;
-    Ok(Device { plan, payload: [0; MAX_WIDTH], phase: Phase::Cold })
+/// A refused start gives a device without units, and an ungrouped one.
+fn start(plan: Plan, grouped: bool) -> (Answer, Device) {
+    let answer = plan.check();
+    let (plan, grouped) = if answer.is_ok() { (plan, grouped) } else { (Plan::NONE, false) };
+    (answer, Device { plan, grouped, payload: [0; MAX_WIDTH], phase: Phase::Cold, stores: 0 })
 }
 
 /// "Format sets the filler to zero", with all else but the markers.
 fn format(device: &mut Device, image: &mut [u8]) -> Answer {
     device.check(image)?;
-    refuse_if(!matches!(device.phase, Phase::Cold), Refusal::WrongPhase)?;
+    refuse_if(device.phase != Phase::Cold, Refusal::WrongPhase)?;
     let plan = device.plan;
     image[..plan.image_length()].fill(0);
     for unit in 0..plan.count {
@@ -344,19 +494,57 @@ fn format(device: &mut Device, image: &mut [u8]) -> Answer {
     }
     device.payload.fill(0);
     device.phase = Phase::Ready;
+    device.stores = 0;
     Ok(())
 }
 
+/// A grouped device's last unit "takes no ordinary begin": 20, tested after 6
+/// and so before 7.
 fn begin(device: &mut Device, image: &[u8], unit: usize, payload: &[u8]) -> Answer {
     device.check(image)?;
     let plan = device.plan;
-    refuse_if(!matches!(device.phase, Phase::Ready), Refusal::WrongPhase)?;
+    refuse_if(device.phase != Phase::Ready, Refusal::WrongPhase)?;
     refuse_if(unit >= plan.count, Refusal::NoSuchUnit)?;
+    refuse_if(device.record_unit() == Some(unit), Refusal::TwiceOrRecord)?;
     refuse_if(payload.len() != plan.width(unit), Refusal::PayloadLength)?;
     refuse_if(device.marker(unit, image) != OK, Refusal::MarkerNotOk)?;
-    device.payload.fill(0);
-    device.payload[..payload.len()].copy_from_slice(payload);
+    device.take_payload(payload);
     device.phase = Phase::Writing { unit, made: 0 };
+    Ok(())
+}
+
+/// The unit of the total and its width, "lowest byte first".
+const TOTAL_UNIT: usize = 0;
+const TOTAL_WIDTH: usize = 8;
+
+/// "Begins a write of total plus turns", the total "taken from copy A": 16
+/// after 5, 20 on the record, and 15 after 8.
+fn ride(device: &mut Device, image: &[u8], turns: u64) -> Answer {
+    device.check(image)?;
+    refuse_if(device.phase != Phase::Ready, Refusal::WrongPhase)?;
+    refuse_if(device.plan.width(TOTAL_UNIT) != TOTAL_WIDTH, Refusal::NoTotal)?;
+    refuse_if(device.record_unit() == Some(TOTAL_UNIT), Refusal::TwiceOrRecord)?;
+    refuse_if(device.marker(TOTAL_UNIT, image) != OK, Refusal::MarkerNotOk)?;
+    let copy_a = &image[device.plan.copy_a(TOTAL_UNIT)];
+    let total = copy_a.iter().rev().fold(0, |total, &byte| total << 8 | u64::from(byte));
+    let sum = total.checked_add(turns).ok_or(Refusal::TooManyTurns)?;
+    device.take_payload(&sum.to_le_bytes());
+    device.phase = Phase::Writing { unit: TOTAL_UNIT, made: 0 };
+    Ok(())
+}
+
+/// Stores nothing, as a begin: "the payload being the record, zeros after it".
+/// 19, 20 and 21 come in this order, "and then 8 for the record or a member".
+fn group(device: &mut Device, image: &[u8], bytes: &[u8]) -> Answer {
+    device.check(image)?;
+    refuse_if(device.phase != Phase::Ready, Refusal::WrongPhase)?;
+    let members = device.members(bytes)?;
+    let units = members.iter().map(|member| member.unit).chain(device.record_unit());
+    let mut markers = units.map(|unit| device.marker(unit, image));
+    refuse_if(markers.any(|marker| marker != OK), Refusal::MarkerNotOk)?;
+    let count = members.len() as u8; // 2 to 4
+    device.take_payload(&[&[count], bytes].concat());
+    device.phase = Phase::Grouping { write: 0, made: 0 };
     Ok(())
 }
 
@@ -364,21 +552,24 @@ fn step(device: &mut Device, image: &mut [u8]) -> Answer {
     device.check(image)?;
     let store = device.next_store(image).ok_or(Refusal::WrongPhase)?;
     store.make(image);
-    device.phase = device.phase_after_store(image);
+    device.stores = device.stores.saturating_add(1);
+    device.go_on(image);
     Ok(())
 }
 
+/// Stores nothing; the payload stays, but for that of a standing record.
 fn wake(device: &mut Device, image: &[u8]) -> Answer {
     device.check(image)?;
-    refuse_if(!matches!(device.phase, Phase::Cold), Refusal::WrongPhase)?;
+    refuse_if(device.phase != Phase::Cold, Refusal::WrongPhase)?;
     let is_foreign = |unit| device.marker(unit, image) >= FIRST_FOREIGN;
     refuse_if((0..device.plan.count).any(is_foreign), Refusal::ForeignMarker)?;
-    device.phase = device.cleanup_from(0, image);
+    device.recover_from(0, image);
     Ok(())
 }
 
 /// "Cut now takes p bytes, one for each byte of the torn page"; "18 for a cut
-/// of other than p bytes, tested after 4", so also where nothing is torn.
+/// of other than p bytes, tested after 4", so also where nothing is torn. "A
+/// torn store doesn't count; cut keeps the number".
 fn cut(device: &mut Device, image: &mut [u8], given: &[u8]) -> Answer {
     device.check(image)?;
     refuse_if(given.len() != device.plan.page, Refusal::CutLength)?;
@@ -396,7 +587,7 @@ fn cut(device: &mut Device, image: &mut [u8], given: &[u8]) -> Answer {
 /// Copy A of the unit, as the image has it, without filler.
 fn read<'a>(device: &Device, image: &'a [u8], unit: usize) -> Result<&'a [u8], Refusal> {
     device.check(image)?;
-    refuse_if(!matches!(device.phase, Phase::Ready), Refusal::WrongPhase)?;
+    refuse_if(device.phase != Phase::Ready, Refusal::WrongPhase)?;
     refuse_if(unit >= device.plan.count, Refusal::NoSuchUnit)?;
     refuse_if(device.marker(unit, image) != OK, Refusal::MarkerNotOk)?;
     Ok(&image[device.plan.copy_a(unit)])
@@ -706,7 +897,7 @@ fn play<W: Write>(script: &[u8], mode: Mode, printer: &mut Printer<W>) -> io::Re
     let mut numbered = (1..).zip(lines(script));
     let Some((_, first)) = numbered.next() else { return Ok(()) };
     let Some(plan) = parse_plan(first) else { return printer.word("bad", 1) };
-    let (mut device, mut image) = match lay_out(plan) {
+    let (mut device, mut image) = match lay_out(plan, false) {
         Ok(laid_out) => laid_out,
         Err(refusal) => return printer.word("plan", refusal as usize),
     };
@@ -723,8 +914,9 @@ fn play<W: Write>(script: &[u8], mode: Mode, printer: &mut Printer<W>) -> io::Re
 /// Start and format, over an image of exactly the units' length, with filler.
 /// The image is given other bytes than zeros first, for format to have
 /// something to do.
-fn lay_out(plan: Plan) -> Result<(Device, Vec<u8>), Refusal> {
-    let mut device = start(plan)?;
+fn lay_out(plan: Plan, grouped: bool) -> Result<(Device, Vec<u8>), Refusal> {
+    let (answer, mut device) = start(plan, grouped);
+    answer?;
     let mut image = vec![0xff; plan.image_length()];
     format(&mut device, &mut image)?;
     Ok((device, image))
@@ -823,6 +1015,308 @@ fn play_input(mode: Mode) -> io::Result<()> {
     io::stdin().lock().take(MAX_SCRIPT as u64 + 1).read_to_end(&mut script)?;
     let mut printer = Printer::new(io::stdout().lock());
     play(&script, mode, &mut printer)?;
+    printer.hand_on()
+}
+
+// ------------------------------------------------------------------- lists
+// Lists of calls in a binary form, with rides and groups, which have no form
+// in a bench script.
+
+/// What every byte of a list's image is before format.
+const FOUND: u8 = 0x77;
+
+#[derive(Clone, Debug)]
+enum Call {
+    Begin { unit: usize, payload: Vec<u8> },
+    Cut { given: Vec<u8> },
+    Wake,
+    Ride { turns: u64 },
+    Group { bytes: Vec<u8> },
+    Step,
+}
+
+impl Call {
+    fn word(&self) -> &'static str {
+        match self {
+            Call::Begin { .. } => "begin",
+            Call::Cut { .. } => "cut",
+            Call::Wake => "wake",
+            Call::Ride { .. } => "ride",
+            Call::Group { .. } => "group",
+            Call::Step => "step",
+        }
+    }
+
+    fn make(&self, device: &mut Device, image: &mut [u8]) -> Answer {
+        match self {
+            Call::Begin { unit, payload } => begin(device, image, *unit, payload),
+            Call::Cut { given } => cut(device, image, given),
+            Call::Wake => wake(device, image),
+            Call::Ride { turns } => ride(device, image, *turns),
+            Call::Group { bytes } => group(device, image, bytes),
+            Call::Step => step(device, image),
+        }
+    }
+}
+
+/// What is left of the input, or of one list's calls. Every reader takes its
+/// piece off the front, or gives None if there is too little.
+struct Input<'a> {
+    rest: &'a [u8],
+}
+
+impl<'a> Input<'a> {
+    fn bytes(&mut self, count: usize) -> Option<&'a [u8]> {
+        let (piece, rest) = self.rest.split_at_checked(count)?;
+        self.rest = rest;
+        Some(piece)
+    }
+
+    fn byte(&mut self) -> Option<u8> {
+        self.bytes(1).map(|piece| piece[0])
+    }
+
+    /// Two bytes, high byte first.
+    fn two(&mut self) -> Option<u16> {
+        Some(u16::from(self.byte()?) << 8 | u16::from(self.byte()?))
+    }
+
+    fn call(&mut self) -> Option<Call> {
+        let kind = self.byte()?;
+        let unit = usize::from(self.two()?);
+        let length = usize::from(self.two()?);
+        let own = self.bytes(length)?;
+        Some(match kind {
+            1 => Call::Begin { unit, payload: own.to_vec() },
+            2 => Call::Cut { given: own.to_vec() },
+            3 => Call::Wake,
+            4 => Call::Ride { turns: own.first_chunk().map_or(0, |&own| u64::from_le_bytes(own)) },
+            5 => Call::Group { bytes: own.to_vec() },
+            _ => Call::Step,
+        })
+    }
+
+    fn list(&mut self) -> Option<List> {
+        let count = usize::from(self.byte()?);
+        let mut widths = [0; MAX_UNITS];
+        for width in &mut widths {
+            *width = self.two()?;
+        }
+        let plan = Plan { count, widths, page: usize::from(self.byte()?) };
+        let grouped = self.byte()? != 0;
+        let image_length = usize::from(self.two()?);
+        let length = usize::from(self.two()?);
+        let mut own = Input { rest: self.bytes(length)? };
+        // What is too short for a call ends the list and is none.
+        let calls = std::iter::from_fn(|| own.call()).collect();
+        Some(List { plan, grouped, image_length, calls })
+    }
+}
+
+struct List {
+    plan: Plan,
+    grouped: bool,
+    image_length: usize,
+    calls: Vec<Call>,
+}
+
+fn phase_words(phase: Phase) -> String {
+    match phase {
+        Phase::Cold => String::from("Cold"),
+        Phase::Ready => String::from("Ready"),
+        Phase::Writing { unit, made } => format!("Writing {unit} {made}"),
+        Phase::Recovering { unit, made, direction: Direction::AToB } => {
+            format!("Recovering {unit} {made} AToB")
+        }
+        Phase::Recovering { unit, made, direction: Direction::BToA } => {
+            format!("Recovering {unit} {made} BToA")
+        }
+        Phase::Grouping { write, made } => format!("Grouping {write} {made}"),
+    }
+}
+
+/// A call's line: its word and number, and the phase and the count after it.
+fn call_line(call: &Call, device: &mut Device, image: &mut [u8]) -> String {
+    let answer = number(call.make(device, image));
+    format!("{} {answer} {} {}", call.word(), phase_words(device.phase), device.stores)
+}
+
+/// Plays one list, which goes on after a refused start and a refused format.
+fn play_list<W: Write>(list: &List, printer: &mut Printer<W>) -> io::Result<()> {
+    let mut image = vec![FOUND; list.image_length];
+    let (answer, mut device) = start(list.plan, list.grouped);
+    printer.word("start", usize::from(number(answer)))?;
+    let answer = format(&mut device, &mut image);
+    printer.word("format", usize::from(number(answer)))?;
+    for call in &list.calls {
+        printer.line(&call_line(call, &mut device, &mut image))?;
+    }
+    for (word, bytes) in [("image", &image[..]), ("payload", &device.payload)] {
+        printer.text(word.as_bytes());
+        printer.bytes(bytes);
+        printer.line("")?;
+    }
+    Ok(())
+}
+
+/// Plays the lists one after the other; one that is cut short is none.
+fn play_lists<W: Write>(input: &[u8], printer: &mut Printer<W>) -> io::Result<()> {
+    let mut input = Input { rest: input };
+    while let Some(list) = input.list() {
+        play_list(&list, printer)?;
+    }
+    Ok(())
+}
+
+fn play_lists_input() -> io::Result<()> {
+    let mut input = Vec::new();
+    io::stdin().lock().read_to_end(&mut input)?;
+    let mut printer = Printer::new(io::stdout().lock());
+    play_lists(&input, &mut printer)?;
+    printer.hand_on()
+}
+
+// ---------------------------------------------------------------- together
+// A power cut at every place of one group, with every byte.
+
+/// Three units and the record, and what each holds before the group and, if
+/// the group passed, after it.
+const TOGETHER_WIDTHS: [u16; 4] = [2, 1, 3, 6];
+const TOGETHER_OLD: [&[u8]; 4] = [&[0x01, 0x02], &[0x03], &[0x04, 0x05, 0x06], &[0; 6]];
+const TOGETHER_NEW: [&[u8]; 4] = [&[0x11, 0x12], &[0x13], &[0x04, 0x05, 0x06], &[0; 6]];
+
+/// The group: unit 1 first, then unit 0.
+const TOGETHER_GROUP: [u8; 5] = [0x01, 0x13, 0x00, 0x11, 0x12];
+
+/// The record, unit 1, unit 0 and the zeros.
+const TOGETHER_STORES: usize = 15 + 5 + 7 + 15;
+
+/// A line: the page size, the cuts before it, each after so many steps and
+/// with this byte, and the most steps after them.
+const TOGETHER_LINES: [(u16, &[(usize, u8)], usize); 8] = [
+    (1, &[], TOGETHER_STORES),
+    (4, &[], TOGETHER_STORES),
+    (8, &[], TOGETHER_STORES),
+    (16, &[], TOGETHER_STORES),
+    (1, &[(15, 0x5a)], 27),
+    (1, &[(8, 0x5a)], 34),
+    (1, &[(7, 0x00)], 7),
+    (1, &[(15, 0x5a), (10, 0x5a)], 30),
+];
+
+/// A device with its image, which alone outlives a power cut.
+#[derive(Clone)]
+struct Console {
+    device: Device,
+    image: Vec<u8>,
+}
+
+impl Console {
+    /// The three units written one after the other, then the group begun.
+    fn in_group(page: u16) -> Result<Console, Refusal> {
+        let (device, image) = lay_out(Plan::from_script(&TOGETHER_WIDTHS, page), true)?;
+        let mut console = Console { device, image };
+        for (unit, payload) in TOGETHER_OLD.into_iter().enumerate().take(3) {
+            begin(&mut console.device, &console.image, unit, payload)?;
+            console.step_to_end();
+        }
+        group(&mut console.device, &console.image, &TOGETHER_GROUP)?;
+        Ok(console)
+    }
+
+    /// A refused step is ignored.
+    fn steps(&mut self, times: usize) {
+        for _ in 0..times {
+            let _ = step(&mut self.device, &mut self.image);
+        }
+    }
+
+    /// Steps until one is refused, and that one's refusal.
+    fn step_to_end(&mut self) -> Refusal {
+        loop {
+            if let Err(refusal) = step(&mut self.device, &mut self.image) {
+                return refusal;
+            }
+        }
+    }
+
+    /// A power cut that gives every byte of the torn page this byte. What was
+    /// in RAM is lost, so the device is started anew, and wakes.
+    fn power_cut(&mut self, byte: u8) -> Answer {
+        let plan = self.device.plan;
+        cut(&mut self.device, &mut self.image, &vec![byte; plan.page])?;
+        let (answer, device) = start(plan, true);
+        self.device = device;
+        answer?;
+        wake(&mut self.device, &self.image)
+    }
+
+    /// Whether every marker is 1 and both copies of each unit are these bytes.
+    fn holds(&self, units: [&[u8]; 4]) -> bool {
+        let plan = &self.device.plan;
+        units.into_iter().enumerate().all(|(unit, bytes)| {
+            self.device.marker(unit, &self.image) == OK
+                && &self.image[plan.copy_a(unit)] == bytes
+                && &self.image[plan.copy_b(unit)] == bytes
+        })
+    }
+
+    /// What stands after a power cut here and the whole repair: `o` the old
+    /// bytes, `n` the group's, `x` anything else.
+    fn outcome(&self, byte: u8) -> char {
+        let mut console = self.clone();
+        let wakes = console.power_cut(byte).is_ok();
+        if !wakes || console.step_to_end() != Refusal::WrongPhase {
+            'x'
+        } else if console.holds(TOGETHER_OLD) {
+            'o'
+        } else if console.holds(TOGETHER_NEW) {
+            'n'
+        } else {
+            'x'
+        }
+    }
+
+    /// The outcome of a power cut here if it is the same with every byte, `x`
+    /// if one of them is x, and otherwise `m`, mixed.
+    fn letter(&self) -> char {
+        let outcomes: Vec<char> = (0..=u8::MAX).map(|byte| self.outcome(byte)).collect();
+        if outcomes.contains(&'x') {
+            'x'
+        } else if outcomes.iter().all(|&outcome| outcome == outcomes[0]) {
+            outcomes[0]
+        } else {
+            'm'
+        }
+    }
+}
+
+/// One line of letters, for 0 steps up to the most.
+fn together_line(page: u16, cuts: &[(usize, u8)], most: usize) -> Result<String, Refusal> {
+    let mut console = Console::in_group(page)?;
+    for &(steps, byte) in cuts {
+        console.steps(steps);
+        console.power_cut(byte)?;
+    }
+    let mut letters = String::new();
+    for _ in 0..=most {
+        letters.push(console.letter());
+        console.steps(1);
+    }
+    Ok(letters)
+}
+
+fn together_lines() -> io::Result<Vec<String>> {
+    let refused = |refusal| io::Error::other(format!("refused with {}", refusal as u8));
+    let line = |(page, cuts, most)| together_line(page, cuts, most).map_err(refused);
+    TOGETHER_LINES.into_iter().map(line).collect()
+}
+
+fn together() -> io::Result<()> {
+    let mut printer = Printer::new(io::stdout().lock());
+    for line in together_lines()? {
+        printer.line(&line)?;
+    }
     printer.hand_on()
 }
 
@@ -1235,6 +1729,716 @@ const REFUSED_CUTS: [&str; 3] =
 const LOOK_LINES: [&str; 5] =
     ["(drive 65535 65535)", "(drives)", "(read 65535)", "(inspect)", "(set 7 ff)"];
 
+/// Widths, page, whether it is grouped, and calls with what each line of the
+/// mode `lists` has after the call's word; the device is formatted before.
+/// These words of the self-test are no calls:
+///
+/// - `set I HH ..` puts bytes into the image from byte I on; `hold I HH ..`
+///   does so in the payload;
+/// - `cold`, `ready`, `writing U N`, `recovering U N` (A to B), `grouping W N`,
+///   `stores N` and `ungrouped` change the device by hand;
+/// - `image` gives the whole image, a space between pages, and `payload` the
+///   payload up to its last byte that isn't 0.
+///
+/// `step N` makes N steps and gives the last one's line; `HH*N` is N bytes HH.
+type GroupCase = (&'static [u16], u16, bool, &'static [(&'static str, &'static str)]);
+
+const GROUP_CASES: &[GroupCase] = &[
+    // ---- The plan (1 1 5): markers at 0, 3 and 6; copies A at 1, 4 and 7 to
+    // 11; copies B at 2, 5 and 12 to 16. The record 02 00 33 01 44 just fits. A
+    // group is 13 + 5 + 5 + 13 = 36 stores, written again it is 23.
+    // A whole group.
+    (&[1, 1, 5], 1, true, &[
+        ("image", "01 00 00 01 00 00 01 00 00 00 00 00 00 00 00 00 00"),
+        ("group 00 33 01 44", "0 Grouping 0 0 0"),
+        ("payload", "02 00 33 01 44"),
+        ("image", "01 00 00 01 00 00 01 00 00 00 00 00 00 00 00 00 00"),
+        ("step 6", "0 Grouping 0 6 6"),
+        ("image", "01 00 00 01 00 00 02 02 00 33 01 44 00 00 00 00 00"),
+        ("step", "0 Grouping 0 7 7"),
+        ("image", "01 00 00 01 00 00 04 02 00 33 01 44 00 00 00 00 00"),
+        ("step 5", "0 Grouping 0 12 12"),
+        ("step", "0 Grouping 1 0 13"),
+        ("image", "01 00 00 01 00 00 01 02 00 33 01 44 02 00 33 01 44"),
+        ("step 2", "0 Grouping 1 2 15"),
+        ("image", "02 33 00 01 00 00 01 02 00 33 01 44 02 00 33 01 44"),
+        ("step 3", "0 Grouping 2 0 18"),
+        ("image", "01 33 33 01 00 00 01 02 00 33 01 44 02 00 33 01 44"),
+        ("step 4", "0 Grouping 2 4 22"),
+        ("image", "01 33 33 04 44 44 01 02 00 33 01 44 02 00 33 01 44"),
+        ("step", "0 Grouping 3 0 23"),
+        ("step 2", "0 Grouping 3 2 25"),
+        ("image", "01 33 33 01 44 44 02 00 00 33 01 44 02 00 33 01 44"),
+        ("step 10", "0 Grouping 3 12 35"),
+        ("payload", "02 00 33 01 44"),
+        ("step", "0 Ready 36"),
+        ("payload", "02 00 33 01 44"),
+        ("image", "01 33 33 01 44 44 01 00 00 00 00 00 00 00 00 00 00"),
+        ("step", "5 Ready 36"),
+    ]),
+    // The members in the order of the bytes, not of the units.
+    (&[1, 1, 5], 1, true, &[
+        ("group 01 44 00 33", "0 Grouping 0 0 0"),
+        ("step 15", "0 Grouping 1 2 15"),
+        ("image", "01 00 00 02 44 00 01 02 01 44 00 33 02 01 44 00 33"),
+        ("step 5", "0 Grouping 2 2 20"),
+        ("image", "02 33 00 01 44 44 01 02 01 44 00 33 02 01 44 00 33"),
+    ]),
+    // F2: the record's write has passed, and the record ends as zeros. A12:
+    // from the cleanup straight to the members, with no Ready between; that
+    // step sets the payload, the wake does not.
+    (&[1, 1, 5], 1, true, &[
+        ("group 00 33 01 44", "0 Grouping 0 0 0"),
+        ("step 7", "0 Grouping 0 7 7"),
+        ("cut 99", "0 Cold 7"),
+        ("image", "01 00 00 01 00 00 04 02 00 33 01 44 99 00 00 00 00"),
+        ("payload", ""),
+        ("wake", "0 Recovering 2 0 AToB 7"),
+        ("payload", ""),
+        ("step 5", "0 Recovering 2 5 AToB 12"),
+        ("payload", ""),
+        ("step", "0 Grouping 1 0 13"),
+        ("payload", "02 00 33 01 44"),
+        ("step 22", "0 Grouping 3 12 35"),
+        ("step", "0 Ready 36"),
+        ("image", "01 33 33 01 44 44 01 00 00 00 00 00 00 00 00 00 00"),
+        ("payload", "02 00 33 01 44"),
+        ("step", "5 Ready 36"),
+    ]),
+    // The record's store 7 torn off 2, to 0: 6 + 23 = 29 steps.
+    (&[1, 1, 5], 1, true, &[
+        ("group 00 33 01 44", "0 Grouping 0 0 0"),
+        ("step 6", "0 Grouping 0 6 6"),
+        ("cut 02", "0 Cold 6"),
+        ("image", "01 00 00 01 00 00 00 02 00 33 01 44 00 00 00 00 00"),
+        ("wake", "0 Recovering 2 0 AToB 6"),
+        ("step 6", "0 Grouping 1 0 12"),
+        ("step 22", "0 Grouping 3 12 34"),
+        ("step", "0 Ready 35"),
+        ("image", "01 33 33 01 44 44 01 00 00 00 00 00 00 00 00 00 00"),
+    ]),
+    // F4: the same store torn and still 2. Copy A shows the record, but it
+    // will not stand: 6 steps, and all is old.
+    (&[1, 1, 5], 1, true, &[
+        ("group 00 33 01 44", "0 Grouping 0 0 0"),
+        ("step 6", "0 Grouping 0 6 6"),
+        ("cut f9", "0 Cold 6"),
+        ("image", "01 00 00 01 00 00 02 02 00 33 01 44 00 00 00 00 00"),
+        ("wake", "0 Recovering 2 0 BToA 6"),
+        ("step 5", "0 Recovering 2 5 BToA 11"),
+        ("step", "0 Ready 12"),
+        ("payload", ""),
+        ("image", "01 00 00 01 00 00 01 00 00 00 00 00 00 00 00 00 00"),
+    ]),
+    // F4: after the whole record all markers are 1, and it is 23 steps. A12:
+    // here wake itself goes on, and sets the payload.
+    (&[1, 1, 5], 1, true, &[
+        ("group 00 33 01 44", "0 Grouping 0 0 0"),
+        ("step 13", "0 Grouping 1 0 13"),
+        ("cut 00", "0 Cold 13"),
+        ("image", "01 00 00 01 00 00 01 02 00 33 01 44 02 00 33 01 44"),
+        ("payload", ""),
+        ("wake", "0 Grouping 1 0 13"),
+        ("payload", "02 00 33 01 44"),
+        ("step 22", "0 Grouping 3 12 35"),
+        ("step", "0 Ready 36"),
+        ("image", "01 33 33 01 44 44 01 00 00 00 00 00 00 00 00 00 00"),
+    ]),
+    // F4: in the zeros' write copy A is all zeros, but the marker still 2; it
+    // will stand, and the members are written again: 6 + 23 steps.
+    (&[1, 1, 5], 1, true, &[
+        ("group 00 33 01 44", "0 Grouping 0 0 0"),
+        ("step 29", "0 Grouping 3 6 29"),
+        ("cut 00", "0 Cold 29"),
+        ("image", "01 33 33 01 44 44 02 00 00 00 00 00 02 00 33 01 44"),
+        ("wake", "0 Recovering 2 0 BToA 29"),
+        ("step 6", "0 Grouping 1 0 35"),
+        ("image", "01 33 33 01 44 44 01 02 00 33 01 44 02 00 33 01 44"),
+        ("step 22", "0 Grouping 3 12 57"),
+        ("step", "0 Ready 58"),
+        ("image", "01 33 33 01 44 44 01 00 00 00 00 00 00 00 00 00 00"),
+    ]),
+    // One store on the zeros have passed, and the cleanup alone is left. The
+    // same if the store is torn off 2, here to 6.
+    (&[1, 1, 5], 1, true, &[
+        ("group 00 33 01 44", "0 Grouping 0 0 0"),
+        ("step 30", "0 Grouping 3 7 30"),
+        ("cut 88", "0 Cold 30"),
+        ("image", "01 33 33 01 44 44 04 00 00 00 00 00 88 00 33 01 44"),
+        ("wake", "0 Recovering 2 0 AToB 30"),
+        ("step 6", "0 Ready 36"),
+        ("image", "01 33 33 01 44 44 01 00 00 00 00 00 00 00 00 00 00"),
+    ]),
+    (&[1, 1, 5], 1, true, &[
+        ("group 00 33 01 44", "0 Grouping 0 0 0"),
+        ("step 29", "0 Grouping 3 6 29"),
+        ("cut 04", "0 Cold 29"),
+        ("image", "01 33 33 01 44 44 06 00 00 00 00 00 02 00 33 01 44"),
+        ("wake", "0 Recovering 2 0 AToB 29"),
+        ("step 6", "0 Ready 35"),
+    ]),
+    // Cut in a member's write, whose own cleanup goes back to the old byte;
+    // then it is written again all the same. Cut once more in there, at store
+    // 10 of the members: unit 1's last marker, 4 to 1 torn to 5.
+    (&[1, 1, 5], 1, true, &[
+        ("group 00 33 01 44", "0 Grouping 0 0 0"),
+        ("step 15", "0 Grouping 1 2 15"),
+        ("cut 00", "0 Cold 15"),
+        ("image", "02 33 00 01 00 00 01 02 00 33 01 44 02 00 33 01 44"),
+        ("wake", "0 Recovering 0 0 BToA 15"),
+        ("step", "0 Recovering 0 1 BToA 16"),
+        ("step", "0 Grouping 1 0 17"),
+        ("image", "01 00 00 01 00 00 01 02 00 33 01 44 02 00 33 01 44"),
+        ("step 9", "0 Grouping 2 4 26"),
+        ("cut 01", "0 Cold 26"),
+        ("image", "01 33 33 05 44 44 01 02 00 33 01 44 02 00 33 01 44"),
+        ("wake", "0 Recovering 1 0 AToB 26"),
+        ("step 2", "0 Grouping 1 0 28"),
+        ("step 22", "0 Grouping 3 12 50"),
+        ("step", "0 Ready 51"),
+        ("image", "01 33 33 01 44 44 01 00 00 00 00 00 00 00 00 00 00"),
+    ]),
+    // Calls that a group phase refuses, and that change nothing; 5 is before
+    // 6, 16 and 19. Inspect works.
+    (&[1, 1, 5], 1, true, &[
+        ("group 00 33 01 44", "0 Grouping 0 0 0"),
+        ("step", "0 Grouping 0 1 1"),
+        ("group 00 33 01 44", "5 Grouping 0 1 1"),
+        ("group", "5 Grouping 0 1 1"),
+        ("begin 0 55", "5 Grouping 0 1 1"),
+        ("begin 2", "5 Grouping 0 1 1"),
+        ("begin 3", "5 Grouping 0 1 1"),
+        ("ride 1", "5 Grouping 0 1 1"),
+        ("wake", "5 Grouping 0 1 1"),
+        ("format", "5 Grouping 0 1 1"),
+        ("cut", "18 Grouping 0 1 1"),
+        ("cut 00 00", "18 Grouping 0 1 1"),
+        ("read 0", "5"),
+        ("inspect", "unit 2"),
+        ("payload", "02 00 33 01 44"),
+        ("image", "01 00 00 01 00 00 02 00 00 00 00 00 00 00 00 00 00"),
+        ("cut 00", "0 Cold 1"),
+        ("group 00 33 01 44", "5 Cold 1"),
+        ("group", "5 Cold 1"),
+        ("step", "5 Cold 1"),
+    ]),
+    // The record takes no begin, whatever the length (A1); 6 is before it, 8
+    // after it. It may be read (A5). An ungrouped device has no record.
+    (&[1, 1, 5], 1, true, &[
+        ("begin 2 01 02 03 04 05", "20 Ready 0"),
+        ("begin 2 01", "20 Ready 0"),
+        ("begin 3 01", "6 Ready 0"),
+        ("begin 1", "7 Ready 0"),
+        ("read 2", "0 (00 00 00 00 00)"),
+        ("set 6 02", ""),
+        ("begin 2 01 02 03 04 05", "20 Ready 0"),
+        ("read 2", "8"),
+        ("begin 1 07", "0 Writing 1 0 0"),
+    ]),
+    (&[1, 1, 5], 1, false, &[
+        ("begin 2 01", "7 Ready 0"),
+        ("begin 2 01 02 03 04 05", "0 Writing 2 0 0"),
+        ("step 13", "0 Ready 13"),
+        ("image", "01 00 00 01 00 00 01 01 02 03 04 05 01 02 03 04 05"),
+    ]),
+    // ---- Group answers on (1 2 6): markers at 0, 3 and 8. 19 first.
+    (&[1, 2, 6], 1, true, &[
+        ("group", "19 Ready 0"),
+        ("group 00", "19 Ready 0"),
+        ("group 00 0a", "19 Ready 0"),
+        ("group 00 0a 01", "19 Ready 0"),
+        ("group 00 0a 01 0b", "19 Ready 0"),
+        ("group 00 0a 01 0b 0c 00", "19 Ready 0"),
+        ("group 00 0a 01 0b 0c 0d", "19 Ready 0"),
+        ("group 00 0a 03 0b", "19 Ready 0"),
+        ("group 00 0a ff 0b", "19 Ready 0"),
+        ("group 03 0a 00 0b", "19 Ready 0"),
+        ("group 00 0a 00 0b 03 0c", "19 Ready 0"),
+        ("group 00 01 00 02 00 03 00 04 00 05", "19 Ready 0"),
+        ("group 00 01 02 00 00 00 00 00", "19 Ready 0"),
+        // Then 20.
+        ("group 00 0a 00 0b", "20 Ready 0"),
+        ("group 00 01 00 02 00 03 00 04", "20 Ready 0"),
+        ("group 01 01 02 00 0a 01 03 04", "20 Ready 0"),
+        ("group 00 01 02 00 00 00 00 00 00", "20 Ready 0"),
+        ("group 02 00 00 00 00 00 00 00 01", "20 Ready 0"),
+        // 19 to 21 before 8.
+        ("set 0 00 00 00 02 00 00 00 00 07", ""),
+        ("group 00 0a", "19 Ready 0"),
+        ("group 00 0a 00 0b", "20 Ready 0"),
+        ("group 00 0a 01 0b 0c", "8 Ready 0"),
+        ("set 0 01", ""),
+        ("group 00 0a 01 0b 0c", "8 Ready 0"),
+        ("set 3 01", ""),
+        ("group 00 0a 01 0b 0c", "8 Ready 0"),
+        ("set 8 01", ""),
+        ("set 3 08", ""),
+        ("group 00 0a 01 0b 0c", "8 Ready 0"),
+        ("set 3 01", ""),
+        ("payload", ""),
+        ("group 00 0a 01 0b 0c", "0 Grouping 0 0 0"),
+        ("payload", "02 00 0a 01 0b 0c"),
+    ]),
+    // 21 last of the three, and before 8. One byte wider is enough (A7, above).
+    (&[1, 2, 5], 1, true, &[
+        ("group 00 0a 01 0b 0c", "21 Ready 0"),
+        ("group 01 0b 0c 00 0a", "21 Ready 0"),
+        ("group 00 0a 00 0b", "20 Ready 0"),
+        ("group 00 0a 02 00 00 00 00 00", "20 Ready 0"),
+        ("set 0 00", ""),
+        ("group 00 0a 01 0b 0c", "21 Ready 0"),
+    ]),
+    // No record (A6): the last unit is one like the others.
+    (&[1, 2, 6], 1, false, &[
+        ("group 00 0a", "19 Ready 0"),
+        ("group 00 0a 03 0b", "19 Ready 0"),
+        ("group 00 0a 00 0b", "20 Ready 0"),
+        ("group 00 0a 01 0b 0c", "21 Ready 0"),
+        ("group 00 01 02 00 00 00 00 00 00", "21 Ready 0"),
+        ("set 0 00", ""),
+        ("group 00 0a 01 0b 0c", "21 Ready 0"),
+    ]),
+    // One unit, which is the record: below k, so never 19 for its number.
+    (&[1], 1, true, &[
+        ("group 00 01 00 02", "20 Ready 0"),
+        ("group 00 01", "19 Ready 0"),
+        ("group 00 01 01 02", "19 Ready 0"),
+        ("begin 0 01", "20 Ready 0"),
+        ("begin 1 01", "6 Ready 0"),
+    ]),
+    // 8 only for the record or a member: units at 0, 3, 6 and 9.
+    (&[1, 1, 1, 5], 1, true, &[
+        ("set 0 00", ""),
+        ("group 01 0b 02 0c", "0 Grouping 0 0 0"),
+        ("ready", ""),
+        ("group 01 0b 00 0a", "8 Ready 0"),
+        ("set 0 01", ""),
+        ("set 9 03", ""),
+        ("group 01 0b 02 0c", "8 Ready 0"),
+    ]),
+    // Four members of five, and payloads that look like headers; the record
+    // has room for 9 bytes and more, so that zeros follow.
+    (&[1, 1, 1, 1, 1, 11], 1, true, &[
+        ("group 04 04 03 00 00 03 01 01", "0 Grouping 0 0 0"),
+        ("payload", "04 04 04 03 00 00 03 01 01"),
+        ("step 25", "0 Grouping 1 0 25"),
+        ("step 20", "0 Grouping 5 0 45"),
+        ("step 25", "0 Ready 70"),
+        ("image", "01 03 03 01 01 01 01 00 00 01 00 00 01 04 04 \
+                   01 00 00 00 00 00 00 00 00 00 00 00 00 00 00 00 00 00 00 00 00 00 00"),
+        ("group 00 00 01 01 02 02 03 03 04 04", "19 Ready 70"),
+    ]),
+    // The greatest record, 1 + 3 + 252 = 256 bytes: 515 + 7 + 505 + 515 stores.
+    // With one byte more it is 21.
+    (&[251, 2, 256], 1, true, &[
+        ("group 01 0b 0c 00 0a*251", "0 Grouping 0 0 0"),
+        ("payload", "02 01 0b 0c 00 0a*251"),
+        ("step 515", "0 Grouping 1 0 515"),
+        ("step 7", "0 Grouping 2 0 522"),
+        ("step 505", "0 Grouping 3 0 1027"),
+        ("cut 00", "0 Cold 1027"),
+        ("wake", "0 Grouping 1 0 1027"),
+        ("payload", "02 01 0b 0c 00 0a*251"),
+        ("step 1026", "0 Grouping 3 514 2053"),
+        ("step", "0 Ready 2054"),
+        ("image", "01 0a*502 01 0b 0c 0b 0c 01 00*512"),
+    ]),
+    (&[252, 2, 256], 1, true, &[
+        ("group 01 0b 0c 00 0a*252", "21 Ready 0"),
+        ("group 01 0b 0c 00 0a*251", "19 Ready 0"),
+        ("group 00 0a*252", "19 Ready 0"),
+    ]),
+    // ---- Records that are passed over (A14), put in by hand: copy A of (1 1 6)
+    // is at 7 to 12, copy B at 13 to 18.
+    (&[1, 1, 6], 1, true, &[
+        ("cold", ""),
+        ("set 7 02 00 33 01 44 00", ""),
+        ("wake", "0 Grouping 1 0 0"), // copy A alone is looked at
+        ("payload", "02 00 33 01 44"),
+        ("cold", ""),
+        ("set 7 02 01 33 00 44 00", ""),
+        ("wake", "0 Grouping 1 0 0"),
+        ("payload", "02 01 33 00 44"),
+        ("cold", ""),
+        ("set 7 02 00 33 01 44 07", ""), // not zeros after the members
+        ("wake", "0 Ready 0"),
+        ("payload", "02 01 33 00 44"),
+        ("cold", ""),
+        ("set 7 02 00 33 00 44 00", ""), // a unit twice
+        ("wake", "0 Ready 0"),
+        ("cold", ""),
+        ("set 7 01 00 33 00 00 00", ""), // one member
+        ("wake", "0 Ready 0"),
+        ("cold", ""),
+        ("set 7 03 00 33 01 44 00", ""), // the third is cut off
+        ("wake", "0 Ready 0"),
+        ("cold", ""),
+        ("set 7 00 00 33 01 44 00", ""),
+        ("wake", "0 Ready 0"),
+        ("cold", ""),
+        ("set 7 ff 00 33 01 44 00", ""),
+        ("wake", "0 Ready 0"),
+        ("cold", ""),
+        ("set 7 02 00 33 02 44 00", ""), // the record itself
+        ("wake", "0 Ready 0"),
+        ("cold", ""),
+        ("set 7 02 00 33 03 44 00", ""), // no unit
+        ("wake", "0 Ready 0"),
+        ("image", "01 00 00 01 00 00 01 02 00 33 03 44 00 00 00 00 00 00 00"),
+        ("cold", ""),
+        ("set 7 00 00 00 00 00 00 02 00 33 01 44 00", ""), // only in copy B
+        ("wake", "0 Ready 0"),
+        ("cold", ""),
+        ("set 6 02", ""), // now copied from B to A: it stands
+        ("wake", "0 Recovering 2 0 BToA 0"),
+        ("step 7", "0 Grouping 1 0 7"),
+        ("payload", "02 00 33 01 44"),
+        ("cold", ""),
+        ("set 0 08", ""), // foreign
+        ("wake", "14 Cold 7"),
+        ("set 0 01", ""),
+        ("ungrouped", ""),
+        ("wake", "0 Ready 7"),
+    ]),
+    // Four members and five, on (1 1 1 1 1 11): copy A at 16 to 26. Unit 5 is
+    // the record, unit 4 the highest that a group may have.
+    (&[1, 1, 1, 1, 1, 11], 1, true, &[
+        ("cold", ""),
+        ("set 16 04 00 0a 01 0b 02 0c 04 0d 00 00", ""),
+        ("wake", "0 Grouping 1 0 0"),
+        ("step 20", "0 Grouping 5 0 20"),
+        ("cold", ""),
+        ("set 16 05 00 0a 01 0b 02 0c 03 0d 04 0e", ""),
+        ("wake", "0 Ready 20"),
+        ("cold", ""),
+        ("set 16 03 00 0a 01 0b 04 0c 00 00 00 00", ""),
+        ("wake", "0 Grouping 1 0 20"),
+        ("step 15", "0 Grouping 4 0 35"),
+        ("cold", ""),
+        ("set 16 03 00 0a 01 0b 05 0c 00 00 00 00", ""),
+        ("wake", "0 Ready 35"),
+        // A count less than the members: the third is not zeros.
+        ("cold", ""),
+        ("set 16 02 00 0a 01 0b 04 0c 00 00 00 00", ""),
+        ("wake", "0 Ready 35"),
+        // A count more: the zeros after are unit 0 with 0, here not twice.
+        ("cold", ""),
+        ("set 16 03 04 0a 01 0b 00 00 00 00 00 00", ""),
+        ("wake", "0 Grouping 1 0 35"),
+        ("step 15", "0 Grouping 4 0 50"),
+    ]),
+    // A wake over bad markers leaves the payload, and so does a step to the
+    // next cleanup (A12); the last of them sets it. Two units, by hand.
+    (&[1, 1, 5], 1, true, &[
+        ("cold", ""),
+        ("set 7 02 00 33 01 44", ""),
+        ("set 0 04", ""),
+        ("set 3 02", ""),
+        ("hold 0 aa bb", ""),
+        ("wake", "0 Recovering 0 0 AToB 0"),
+        ("payload", "aa bb"),
+        ("step 2", "0 Recovering 1 0 BToA 2"),
+        ("payload", "aa bb"),
+        ("step 2", "0 Grouping 1 0 4"),
+        ("payload", "02 00 33 01 44"),
+        // And to Ready it stays.
+        ("cold", ""),
+        ("set 7 00", ""),
+        ("wake", "0 Ready 4"),
+        ("payload", "02 00 33 01 44"),
+    ]),
+    // A13: only higher units are looked at, so unit 0 may still be bad; it is
+    // written all the same.
+    (&[1, 1, 5], 1, true, &[
+        ("set 0 00", ""),
+        ("set 3 04", ""),
+        ("set 7 02 00 33 01 44", ""),
+        ("recovering 1 0", ""),
+        ("step 2", "0 Grouping 1 0 2"),
+        ("step 5", "0 Grouping 2 0 7"),
+        ("image", "01 33 33 01 00 00 01 02 00 33 01 44 00 00 00 00 00"),
+    ]),
+    // A16: a write's last store goes to Ready, whatever the record. A15: and
+    // a write of the record itself, begun by hand, is none that 4 refuses.
+    (&[1, 1, 5], 1, true, &[
+        ("set 7 02 00 33 01 44", ""),
+        ("begin 0 09", "0 Writing 0 0 0"),
+        ("step 5", "0 Ready 5"),
+        ("payload", "09"),
+        ("hold 0 11 12 13 14 15", ""),
+        ("writing 2 0", ""),
+        ("step 12", "0 Writing 2 12 17"),
+        ("step", "0 Ready 18"),
+        ("image", "01 09 09 01 00 00 01 11 12 13 14 15 11 12 13 14 15"),
+        ("writing 2 13", ""),
+        ("step", "4 Writing 2 13 18"),
+    ]),
+    // ---- 4 for a group phase, in every call.
+    (&[1, 1, 5], 1, true, &[
+        ("grouping 1 0", ""), // the payload is zeros
+        ("step", "4 Grouping 1 0 0"),
+        ("cut 00", "4 Grouping 1 0 0"),
+        ("cut", "4 Grouping 1 0 0"),
+        ("wake", "4 Grouping 1 0 0"),
+        ("format", "4 Grouping 1 0 0"),
+        ("begin 0 01", "4 Grouping 1 0 0"),
+        ("ride 1", "4 Grouping 1 0 0"),
+        ("group 00 33 01 44", "4 Grouping 1 0 0"),
+        ("read 0", "4"),
+        ("inspect", "refused 4"),
+        ("hold 0 02 00 33 01 44", ""),
+        ("step", "0 Grouping 1 1 1"),
+        ("inspect", "unit 0"),
+        ("grouping 0 12", ""), // the record's last store
+        ("step", "0 Grouping 1 0 2"),
+        ("grouping 0 13", ""),
+        ("step", "4 Grouping 0 13 2"),
+        ("grouping 1 4", ""), // a member's
+        ("step", "0 Grouping 2 0 3"),
+        ("grouping 1 5", ""),
+        ("step", "4 Grouping 1 5 3"),
+        ("grouping 3 12", ""), // the zeros'
+        ("step", "0 Ready 4"),
+        ("grouping 3 13", ""),
+        ("step", "4 Grouping 3 13 4"),
+        ("grouping 4 0", ""), // past the last write
+        ("step", "4 Grouping 4 0 4"),
+        ("wake", "4 Grouping 4 0 4"),
+        ("grouping 2 0", ""),
+        ("hold 5 01", ""), // not zeros past the record's width
+        ("step", "4 Grouping 2 0 4"),
+        ("hold 5 00", ""),
+        ("hold 255 01", ""),
+        ("step", "4 Grouping 2 0 4"),
+        ("hold 255 00", ""),
+        ("hold 0 02 00 33 00 44", ""), // a unit twice
+        ("step", "4 Grouping 2 0 4"),
+        ("hold 0 02 00 33 02 44", ""), // the record
+        ("step", "4 Grouping 2 0 4"),
+        ("hold 0 01 00 33 00 00", ""),
+        ("step", "4 Grouping 2 0 4"),
+        ("hold 0 02 01 33 00 44", ""),
+        ("step", "0 Grouping 2 1 5"),
+        ("ungrouped", ""),
+        ("step", "4 Grouping 2 1 5"),
+        ("cut 00", "4 Grouping 2 1 5"),
+    ]),
+    // A payload that is too wide for the record (21).
+    (&[1, 1, 4], 1, true, &[
+        ("hold 0 02 00 33 01 44", ""),
+        ("grouping 1 0", ""),
+        ("step", "4 Grouping 1 0 0"),
+    ]),
+    // 8 plays no part in it.
+    (&[1, 1, 5], 1, true, &[
+        ("hold 0 02 00 33 01 44", ""),
+        ("set 0 07", ""),
+        ("set 3 08", ""),
+        ("grouping 1 0", ""),
+        ("step", "0 Grouping 1 1 1"),
+    ]),
+    // ---- Ticket 7. The total has marker 0, A at 1 to 8, B at 9 to 16, and its
+    // write has 19 stores.
+    (&[8], 1, false, &[
+        ("ride 258", "0 Writing 0 0 0"),
+        ("payload", "02 01"),
+        ("step 19", "0 Ready 19"),
+        ("image", "01 02 01 00 00 00 00 00 00 02 01 00 00 00 00 00 00"),
+        ("ride 0", "0 Writing 0 0 19"),
+        ("ride 0", "5 Writing 0 0 19"),
+        ("payload", "02 01"),
+        ("step 9", "0 Writing 0 9 28"),
+        ("cut 00", "0 Cold 28"),
+        ("ride 0", "5 Cold 28"),
+        ("wake", "0 Recovering 0 0 BToA 28"),
+        ("ride 0", "5 Recovering 0 0 BToA 28"),
+        ("step 9", "0 Ready 37"),
+        ("ride 254", "0 Writing 0 0 37"),
+        ("payload", "00 02"),
+        ("step 10", "0 Writing 0 10 47"),
+        ("cut 00", "0 Cold 47"), // it has passed
+        ("wake", "0 Recovering 0 0 AToB 47"),
+        ("step 9", "0 Ready 56"),
+        ("ride 18446744073709551103", "0 Writing 0 0 56"), // 2^64 - 513
+        ("payload", "ff ff ff ff ff ff ff ff"),
+        ("step 19", "0 Ready 75"),
+        ("ride 1", "15 Ready 75"),
+        ("ride 18446744073709551615", "15 Ready 75"),
+        ("ride 0", "0 Writing 0 0 75"),
+        ("step 19", "0 Ready 94"),
+        ("set 0 00", ""), // 15 after 8
+        ("ride 1", "8 Ready 94"),
+        ("ride 0", "8 Ready 94"),
+    ]),
+    // The total is copy A's, lowest byte first.
+    (&[8], 1, false, &[
+        ("set 1 05 00 00 00 00 00 00 01 07 00 00 00 00 00 00 02", ""),
+        ("ride 1", "0 Writing 0 0 0"),
+        ("payload", "06 00 00 00 00 00 00 01"),
+    ]),
+    (&[8], 4, false, &[
+        ("set 4 ff ff ff 00 00 00 00 01", ""),
+        ("ride 2", "0 Writing 0 0 0"),
+        ("payload", "01 00 00 01 00 00 00 01"),
+    ]),
+    // 16 after 5, before 20 and 8 (A2); 20 before 8 and 15.
+    (&[7, 8], 1, false, &[
+        ("ride 1", "16 Ready 0"),
+        ("set 0 00", ""),
+        ("ride 1", "16 Ready 0"),
+        ("cut 00", "0 Cold 0"),
+        ("ride 1", "5 Cold 0"),
+    ]),
+    (&[9], 1, true, &[("ride 1", "16 Ready 0")]),
+    (&[8], 1, true, &[
+        ("ride 1", "20 Ready 0"),
+        ("set 0 00 ff ff ff ff ff ff ff ff", ""),
+        ("ride 1", "20 Ready 0"),
+        ("cut 00", "0 Cold 0"),
+        ("ride 1", "5 Cold 0"),
+    ]),
+    (&[8, 1], 1, true, &[
+        ("ride 7", "0 Writing 0 0 0"),
+        ("step 19", "0 Ready 19"),
+        ("image", "01 07 00 00 00 00 00 00 00 07 00 00 00 00 00 00 00 01 00 00"),
+        ("set 0 00 ff ff ff ff ff ff ff ff", ""),
+        ("ride 1", "8 Ready 19"),
+        ("set 0 01", ""),
+        ("ride 1", "15 Ready 19"),
+    ]),
+    // ---- Ticket 5: a refused step and a torn store do not count, a cut keeps
+    // the number, format sets it to 0, and it holds at the greatest.
+    (&[1], 1, false, &[
+        ("begin 0 0a", "0 Writing 0 0 0"),
+        ("stores 4294967293", ""),
+        ("step", "0 Writing 0 1 4294967294"),
+        ("step", "0 Writing 0 2 4294967295"),
+        ("step", "0 Writing 0 3 4294967295"),
+        ("cut 00", "0 Cold 4294967295"),
+        ("step", "5 Cold 4294967295"),
+        ("wake", "0 Recovering 0 0 AToB 4294967295"),
+        ("step 2", "0 Ready 4294967295"),
+        ("format", "5 Ready 4294967295"),
+        ("begin 0 0a", "0 Writing 0 0 4294967295"),
+        ("cut 00", "0 Cold 4294967295"),
+        ("format", "0 Ready 0"),
+    ]),
+    (&[1, 1, 5], 1, true, &[
+        ("stores 4294967290", ""),
+        ("group 00 33 01 44", "0 Grouping 0 0 4294967290"),
+        ("step 13", "0 Grouping 1 0 4294967295"),
+        ("cut 00", "0 Cold 4294967295"),
+        ("format", "0 Ready 0"),
+        ("image", "01 00 00 01 00 00 01 00 00 00 00 00 00 00 00 00 00"),
+    ]),
+    // ---- With pages of 4. (1 1 5) has its markers at 0, 12 and 24; copies A
+    // at 4, 16 and 28 to 32; copies B at 8, 20 and 36 to 40; 44 bytes. As many
+    // stores as before. Cut at the record's third byte and at its last.
+    (&[1, 1, 5], 4, true, &[
+        ("group 00 33 01 44", "0 Grouping 0 0 0"),
+        ("step 3", "0 Grouping 0 3 3"),
+        ("cut d0", "18 Grouping 0 3 3"),
+        ("cut d0 d1 d2 d3", "0 Cold 3"),
+        ("image", "01000000 00000000 00000000 01000000 00000000 00000000 \
+                   02000000 d0d1d2d3 00000000 00000000 00000000"),
+        ("wake", "0 Recovering 2 0 BToA 3"),
+        ("step 6", "0 Ready 9"),
+        ("image", "01000000 00000000 00000000 01000000 00000000 00000000 \
+                   01000000 00000000 00000000 00000000 00000000"),
+        ("group 00 33 01 44", "0 Grouping 0 0 9"),
+        ("step 5", "0 Grouping 0 5 14"),
+        ("cut d0 d1 d2 d3", "0 Cold 14"),
+        ("image", "01000000 00000000 00000000 01000000 00000000 00000000 \
+                   02000000 02003301 d0d1d2d3 00000000 00000000"),
+        ("wake", "0 Recovering 2 0 BToA 14"),
+        ("step 6", "0 Ready 20"),
+        ("image", "01000000 00000000 00000000 01000000 00000000 00000000 \
+                   01000000 00000000 00d1d2d3 00000000 00000000"),
+        // The filler after the record is no part of it.
+        ("group 00 33 01 44", "0 Grouping 0 0 20"),
+        ("step 13", "0 Grouping 1 0 33"),
+        ("cut 00 e1 e2 e3", "0 Cold 33"),
+        ("image", "01e1e2e3 00000000 00000000 01000000 00000000 00000000 \
+                   01000000 02003301 44d1d2d3 02003301 44000000"),
+        ("wake", "0 Grouping 1 0 33"),
+        ("payload", "02 00 33 01 44"),
+        ("step 22", "0 Grouping 3 12 55"),
+        ("step", "0 Ready 56"),
+        ("image", "01e1e2e3 33000000 33000000 01000000 44000000 44000000 \
+                   01000000 00000000 00d1d2d3 00000000 00000000"),
+        // A member's byte torn with its page, then written again.
+        ("group 01 55 00 66", "0 Grouping 0 0 56"),
+        ("step 16", "0 Grouping 1 3 72"),
+        ("cut f0 f1 f2 f3", "0 Cold 72"),
+        ("image", "01e1e2e3 33000000 33000000 04000000 55000000 f0f1f2f3 \
+                   01000000 02015500 66d1d2d3 02015500 66000000"),
+        ("wake", "0 Recovering 1 0 AToB 72"),
+        ("step 2", "0 Grouping 1 0 74"),
+        ("step 23", "0 Ready 97"),
+        ("image", "01e1e2e3 66000000 66000000 01000000 55000000 55f1f2f3 \
+                   01000000 00000000 00d1d2d3 00000000 00000000"),
+    ]),
+];
+
+/// Input of the mode `lists` in hexadecimal digits, and what it prints; of the
+/// payload up to its last byte that isn't 0.
+const LIST_CASES: &[(&str, &str)] = &[
+    ("", ""),
+    // One unit of width 1, a page of 1, not grouped, an image of 4 bytes, 24
+    // bytes of calls: a begin, a step of kind 0, a cut, a wake, and too few
+    // bytes for one more.
+    ("01 0001 0000 0000 0000 0000 0000 0000 0000 01 00 0004 0018 \
+      01 0000 0001 0a  00 0000 0000  02 0000 0001 00  03 0000 0000  00 00",
+     "start 0\nformat 0\nbegin 0 Writing 0 0 0\nstep 0 Writing 0 1 1\ncut 0 Cold 1\n\
+      wake 0 Recovering 0 0 BToA 1\nimage 02 00 00 77\npayload\n"),
+    // Two lists. The first start is refused for its page, the second format
+    // for its image; a third list is cut short, first in its calls.
+    ("01 0001 0000 0000 0000 0000 0000 0000 0000 02 01 0003 0005 00 0000 0000 \
+      01 0001 0000 0000 0000 0000 0000 0000 0000 01 00 0002 000a 03 0000 0000 02 0000 0000 \
+      01 0001 0000 0000 0000 0000 0000 0000 0000 01 00 0003 0005 03 0000 00",
+     "start 17\nformat 1\nstep 1 Cold 0\nimage 77 77 77\npayload\n\
+      start 0\nformat 3\nwake 3 Cold 0\ncut 3 Cold 0\nimage 77 77\npayload\n"),
+    // ... and in its first bytes. The unit is looked at by begin alone, high
+    // byte first; kinds 6 and above are steps, and own bytes of theirs are
+    // left unread; image and calls may be of length 0.
+    ("01 0001 0000 0000 0000 0000 0000 0000 0000 01 00 0003 001e \
+      01 0100 0001 0a  06 0000 0002 aabb  01 0000 0001 0b  ff 0102 0001 03  02 ffff 0000 \
+      09 0000 0000 0000 0000 0000 0000 0000 0000 01 01 0000 0000 01 00",
+     "start 0\nformat 0\nbegin 6 Ready 0\nstep 5 Ready 0\nbegin 0 Writing 0 0 0\n\
+      step 0 Writing 0 1 1\ncut 18 Writing 0 1 1\nimage 02 00 00\npayload 0b\n\
+      start 1\nformat 1\nimage\npayload\n"),
+    // A grouped plan (8 1 1 5), 17 + 3 + 3 + 11 bytes: a ride of fewer than
+    // eight bytes, cut, and one of more than eight, of 2 + 1 × 256 turns.
+    ("04 0008 0001 0001 0005 0000 0000 0000 ffff 01 ff 0022 0025 \
+      04 0000 0007 01010101010101  02 0000 0001 00 \
+      03 0000 0000  04 0000 0009 020100000000000009",
+     "start 0\nformat 0\nride 0 Writing 0 0 0\ncut 0 Cold 0\nwake 0 Ready 0\n\
+      ride 0 Writing 0 0 0\n\
+      image 01 00 00 00 00 00 00 00 00 00 00 00 00 00 00 00 00 01 00 00 01 00 00 \
+      01 00 00 00 00 00 00 00 00 00 00\npayload 02 01\n"),
+    // A group and three of its stores.
+    ("03 0001 0001 0005 0000 0000 0000 0000 0000 01 01 0011 0018 \
+      05 0007 0004 01440033  00 0000 0000  00 0000 0000  00 0000 0000",
+     "start 0\nformat 0\ngroup 0 Grouping 0 0 0\nstep 0 Grouping 0 1 1\n\
+      step 0 Grouping 0 2 2\nstep 0 Grouping 0 3 3\n\
+      image 01 00 00 01 00 00 02 02 01 00 00 00 00 00 00 00 00\n\
+      payload 02 01 44 00 33\n"),
+];
+
+/// The lines of the mode `together`, as runs of letters. The record is 6 wide,
+/// so it passes at its store 8, which is torn after 7 steps; some bytes leave
+/// the marker at 2 there and others don't.
+const TOGETHER_LETTERS: [&str; TOGETHER_LINES.len()] = [
+    "7 o, 1 m, 35 n",
+    "7 o, 1 m, 35 n",
+    "7 o, 1 m, 35 n",
+    "7 o, 1 m, 35 n",
+    "28 n",
+    "35 n",
+    "8 o",
+    "31 n",
+];
+
 /// What a script prints.
 fn played(script: &str, mode: Mode) -> io::Result<String> {
     let mut printer = Printer::new(Vec::new());
@@ -1248,18 +2452,146 @@ fn played(script: &str, mode: Mode) -> io::Result<String> {
 fn image_left(script: &str) -> Option<String> {
     let mut lines = lines(script.as_bytes());
     let plan = parse_plan(lines.next()?)?;
-    let (mut device, mut image) = lay_out(plan).ok()?;
+    let (mut device, mut image) = lay_out(plan, false).ok()?;
     for line in lines {
         let form = parse_form(line, Mode::Bench, image.len())?;
         run(form, &mut device, &mut image, &mut Printer::new(io::sink())).ok()?;
     }
+    Some(in_pages(&image, plan.page))
+}
+
+/// Hexadecimal digits with a space between pages.
+fn in_pages(image: &[u8], page: usize) -> String {
     let page_digits = |page: &[u8]| page.iter().map(|byte| format!("{byte:02x}")).collect();
-    let pages: Vec<String> = image.chunks(plan.page).map(page_digits).collect();
-    Some(pages.join(" "))
+    let pages: Vec<String> = image.chunks(page).map(page_digits).collect();
+    pages.join(" ")
 }
 
 fn device_of(widths: &[u16], page: u16, phase: Phase) -> Device {
-    Device { plan: Plan::from_script(widths, page), payload: [0; MAX_WIDTH], phase }
+    let plan = Plan::from_script(widths, page);
+    Device { plan, grouped: false, payload: [0; MAX_WIDTH], phase, stores: 0 }
+}
+
+/// Bytes written as `HH`, or `HH*N` for N of them.
+fn byte_words(words: &[&str]) -> Option<Vec<u8>> {
+    let mut bytes = Vec::new();
+    for word in words {
+        let (digits, times) = word.split_once('*').unwrap_or((word, "1"));
+        let byte = u8::from_str_radix(digits, 16).ok()?;
+        bytes.extend(vec![byte; times.parse().ok()?]);
+    }
+    Some(bytes)
+}
+
+/// Without the bytes at the end that are 0.
+fn to_last_byte(bytes: &[u8]) -> &[u8] {
+    let length = bytes.iter().rposition(|&byte| byte != 0).map_or(0, |last| last + 1);
+    &bytes[..length]
+}
+
+/// Runs one line of a group case and gives what it says, without its word;
+/// none if there is no such line.
+fn group_case_line(line: &str, device: &mut Device, image: &mut [u8]) -> Option<String> {
+    let words: Vec<&str> = line.split(' ').collect();
+    let numbers: Vec<usize> = words[1..].iter().flat_map(|word| word.parse()).collect();
+    let call = match (words[0], &numbers[..]) {
+        ("begin", [unit, ..]) => {
+            Call::Begin { unit: *unit, payload: byte_words(&words[2..])? }
+        }
+        ("cut", _) => Call::Cut { given: byte_words(&words[1..])? },
+        ("wake", []) => Call::Wake,
+        ("ride", [turns]) => Call::Ride { turns: *turns as u64 },
+        ("group", _) => Call::Group { bytes: byte_words(&words[1..])? },
+        ("step", [] | [_]) => {
+            for _ in 1..numbers.first().copied().unwrap_or(1) {
+                let _ = step(device, image);
+            }
+            Call::Step
+        }
+        _ => return group_case_look(&words, &numbers, device, image),
+    };
+    let said = call_line(&call, device, image);
+    said.split_once(' ').map(|(_, rest)| rest.into())
+}
+
+/// The lines of a group case that are no call of a list.
+fn group_case_look(
+    words: &[&str],
+    numbers: &[usize],
+    device: &mut Device,
+    image: &mut [u8],
+) -> Option<String> {
+    let without_word = |said: String| said.split_once(' ').map(|(_, rest)| rest.into());
+    match (words[0], numbers) {
+        ("read", [unit]) => return without_word(read_line(read(device, image, *unit))),
+        ("inspect", []) => return without_word(inspect_line(inspect(device, image))),
+        ("format", []) => {
+            let answer = number(format(device, image));
+            return Some(format!("{answer} {} {}", phase_words(device.phase), device.stores));
+        }
+        ("image", []) => return Some(in_pages(image, device.plan.page)),
+        ("payload", []) => return Some(plain(to_last_byte(&device.payload))),
+        ("set", [place, ..]) => {
+            let bytes = byte_words(&words[2..])?;
+            image.get_mut(*place..place + bytes.len())?.copy_from_slice(&bytes);
+        }
+        ("hold", [place, ..]) => {
+            let bytes = byte_words(&words[2..])?;
+            device.payload.get_mut(*place..place + bytes.len())?.copy_from_slice(&bytes);
+        }
+        ("cold", []) => device.phase = Phase::Cold,
+        ("ready", []) => device.phase = Phase::Ready,
+        ("writing", [unit, made]) => device.phase = Phase::Writing { unit: *unit, made: *made },
+        ("recovering", [unit, made]) => device.phase = recovering(*unit, *made),
+        ("grouping", [write, made]) => {
+            device.phase = Phase::Grouping { write: *write, made: *made };
+        }
+        ("stores", [stores]) => device.stores = u32::try_from(*stores).ok()?,
+        ("ungrouped", []) => device.grouped = false,
+        _ => return None,
+    }
+    Some(String::new())
+}
+
+/// A group case's lines with what each says, and with what it should say. The
+/// bytes of an image are told page by page.
+fn group_case(case: &GroupCase) -> Option<(String, String)> {
+    let &(widths, page, grouped, lines) = case;
+    let (mut device, mut image) = lay_out(Plan::from_script(widths, page), grouped).ok()?;
+    let (mut got, mut expected) = (String::new(), String::new());
+    for (line, says) in lines {
+        let said = group_case_line(line, &mut device, &mut image);
+        got += &format!("{line}: {}\n", said.unwrap_or(String::from("no such line")));
+        expected += &format!("{line}: {}\n", spelled_out(says));
+    }
+    Some((got, expected))
+}
+
+/// Expected bytes with `HH*N` as N bytes; anything else as it is.
+fn spelled_out(says: &str) -> String {
+    if !says.contains('*') {
+        return says.into();
+    }
+    let words: Vec<&str> = says.split(' ').collect();
+    byte_words(&words).map_or(says.into(), |bytes| plain(&bytes))
+}
+
+/// What the mode `lists` prints for an input in hexadecimal digits.
+fn lists_played(digits: &str) -> io::Result<String> {
+    let digits: Vec<u8> = digits.bytes().filter(|digit| *digit != b' ').collect();
+    let halves = digits.iter().map(|&digit| hex_digit(digit).unwrap_or(0));
+    let halves: Vec<u8> = halves.collect();
+    let input: Vec<u8> = halves.chunks(2).map(|pair| pair[0] << 4 | pair[1]).collect();
+    let mut printer = Printer::new(Vec::new());
+    play_lists(&input, &mut printer)?;
+    printer.hand_on()?;
+    let mut printed = String::new();
+    for line in String::from_utf8_lossy(&printer.to).lines() {
+        let cuts_zeros = line.starts_with("payload");
+        printed += if cuts_zeros { line.trim_end_matches(" 00") } else { line };
+        printed += "\n";
+    }
+    Ok(printed)
 }
 
 /// A device case's lines of inspect and of read of unit 0.
@@ -1303,6 +2635,23 @@ fn cases() -> io::Result<Vec<(String, String, String)>> {
         let got = image_left(&script).unwrap_or_default();
         cases.push((script, got, image.into()));
     }
+    for (i, case) in GROUP_CASES.iter().enumerate() {
+        let (got, expected) = group_case(case).unwrap_or_default();
+        // A plan that is refused would give nothing for both.
+        let got = if got.is_empty() { String::from("refused") } else { got };
+        cases.push((format!("group case {i}"), got, expected));
+    }
+    for (digits, printed) in LIST_CASES {
+        cases.push((format!("lists {digits}"), lists_played(digits)?, (*printed).into()));
+    }
+    for (i, (line, expected)) in together_lines()?.into_iter().zip(TOGETHER_LETTERS).enumerate() {
+        let runs: Vec<String> = line
+            .as_bytes()
+            .chunk_by(|one, next| one == next)
+            .map(|run| format!("{} {}", run.len(), char::from(run[0])))
+            .collect();
+        cases.push((format!("together line {i}"), runs.join(", "), expected.into()));
+    }
     for line in REFUSED_CUTS {
         let got = played(&format!("(plan (2 1))\n{line}\n"), Mode::Bench)?;
         cases.push((line.into(), got, "plan 0\ncut 18\n".into()));
@@ -1323,6 +2672,858 @@ fn cases() -> io::Result<Vec<(String, String, String)>> {
     Ok(cases)
 }
 
+// ------------------------------------------------------------------ claims
+// The claims about lists from a formatted device, tried on lists made at
+// random and on all pairs of cuts in one group. Groups, rides, pages and the
+// count are in them.
+
+/// Random numbers that are the same in every run.
+struct Random {
+    state: u64,
+}
+
+impl Random {
+    fn next(&mut self) -> u64 {
+        self.state = self.state.wrapping_add(0x9e37_79b9_7f4a_7c15);
+        let mut z = self.state;
+        z = (z ^ (z >> 30)).wrapping_mul(0xbf58_476d_1ce4_e5b9);
+        z = (z ^ (z >> 27)).wrapping_mul(0x94d0_49bb_1331_11eb);
+        z ^ (z >> 31)
+    }
+
+    fn below(&mut self, limit: usize) -> usize {
+        (self.next() % limit as u64) as usize
+    }
+
+    fn one_in(&mut self, times: usize) -> bool {
+        self.below(times) == 0
+    }
+
+    fn of<T: Copy>(&mut self, items: &[T]) -> T {
+        items[self.below(items.len())]
+    }
+
+    fn byte(&mut self) -> u8 {
+        self.next() as u8
+    }
+
+    fn bytes(&mut self, count: usize) -> Vec<u8> {
+        (0..count).map(|_| self.byte()).collect()
+    }
+}
+
+/// Which write a ledger is at; the direction of a cleanup is not kept.
+#[derive(Clone, Copy, PartialEq, Debug)]
+enum LedgerPhase {
+    Cold,
+    Ready,
+    Writing(usize, usize),
+    Recovering(usize, usize),
+    Grouping(usize, usize),
+}
+
+/// The ledger of 'What demand 3 compares with', with groups: it "is fed what
+/// start got and each call's arguments", and "nothing of device or image".
+/// Its refusals, its splitting of a group and its going through the stores are
+/// written apart from the device's, to be held against them.
+struct Ledger {
+    plan: Plan,
+    grouped: bool,
+    phase: LedgerPhase,
+    payload: Vec<u8>,
+    last: usize,
+    marker: u8,
+    saved: Vec<Vec<u8>>,
+    /// The members of the group at hand, or of the record that stands.
+    members: Vec<(usize, Vec<u8>)>,
+    /// Whether a record's first write passed, and not yet that of its zeros.
+    stands: bool,
+    /// What each unit's own last write that passed gave it, the record's and
+    /// the members' too, each passing at its own store w + 2.
+    mirror: Vec<Vec<u8>>,
+    /// The turns of the ride at hand, and of those that passed together.
+    turns: u64,
+    turns_passed: u128,
+    /// Whether unit 0 was written by begins or groups too.
+    total_disturbed: bool,
+    completed: u64,
+    ceiling: u64,
+}
+
+impl Ledger {
+    fn new(plan: Plan, grouped: bool) -> Ledger {
+        let zeros: Vec<Vec<u8>> = (0..plan.count).map(|unit| vec![0; plan.width(unit)]).collect();
+        Ledger {
+            plan,
+            grouped,
+            phase: LedgerPhase::Ready,
+            payload: Vec::new(),
+            last: 0,
+            marker: 1,
+            saved: zeros.clone(),
+            members: Vec::new(),
+            stands: false,
+            mirror: zeros,
+            turns: 0,
+            turns_passed: 0,
+            total_disturbed: false,
+            completed: 0,
+            ceiling: 0,
+        }
+    }
+
+    fn is_record(&self, unit: usize) -> bool {
+        self.grouped && unit + 1 == self.plan.count
+    }
+
+    fn width(&self, unit: usize) -> usize {
+        self.saved[unit].len()
+    }
+
+    fn write_stores(&self, unit: usize) -> u64 {
+        2 * self.width(unit) as u64 + 3
+    }
+
+    /// "2w + 3 for each member and the record if one stands".
+    fn rewrite_stores(&self) -> u64 {
+        if !self.stands {
+            return 0;
+        }
+        let members: u64 = self.members.iter().map(|(unit, _)| self.write_stores(*unit)).sum();
+        members + self.write_stores(self.plan.count - 1)
+    }
+
+    /// The steps to Ready after a cut and a wake.
+    fn repair_stores(&self) -> u64 {
+        let cleanup = if self.marker == 1 { 0 } else { self.width(self.last) as u64 + 1 };
+        cleanup + self.rewrite_stores()
+    }
+
+    fn widest(&self) -> u64 {
+        (0..self.plan.count).map(|unit| self.width(unit) as u64).max().unwrap_or(0)
+    }
+
+    /// The stores left to make without a cut; in Cold the most they can be.
+    fn to_come(&self) -> u64 {
+        match self.phase {
+            LedgerPhase::Ready => 0,
+            LedgerPhase::Cold => 1 + self.widest() + self.rewrite_stores(),
+            LedgerPhase::Writing(unit, made) => self.write_stores(unit) - made as u64,
+            LedgerPhase::Recovering(unit, made) => {
+                self.width(unit) as u64 + 1 - made as u64 + self.rewrite_stores()
+            }
+            LedgerPhase::Grouping(write, made) => {
+                let record = self.write_stores(self.plan.count - 1);
+                let members = self.members.iter().map(|(unit, _)| self.write_stores(*unit));
+                let writes = std::iter::once(record).chain(members).chain(Some(record));
+                writes.skip(write).sum::<u64>() - made as u64
+            }
+        }
+    }
+
+    /// The members of these bytes, or the number of the refusal.
+    fn split(&self, bytes: &[u8]) -> Result<Vec<(usize, Vec<u8>)>, u8> {
+        let mut members = Vec::new();
+        let mut at = 0;
+        while at < bytes.len() {
+            let unit = usize::from(bytes[at]);
+            let end = at + 1 + self.saved.get(unit).ok_or(19)?.len();
+            members.push((unit, bytes.get(at + 1..end).ok_or(19)?.to_vec()));
+            at = end;
+        }
+        if members.len() < 2 || members.len() > 4 {
+            return Err(19);
+        }
+        let mut units: Vec<usize> = members.iter().map(|(unit, _)| *unit).collect();
+        units.sort_unstable();
+        if units.windows(2).any(|pair| pair[0] == pair[1]) {
+            return Err(20);
+        }
+        if units.iter().any(|&unit| self.is_record(unit)) {
+            return Err(20);
+        }
+        if !self.grouped || self.saved[self.plan.count - 1].len() <= bytes.len() {
+            return Err(21);
+        }
+        Ok(members)
+    }
+
+    /// The unit at hand, what is stored there and the stores made, if a write
+    /// is under way.
+    fn write_at_hand(&self) -> Option<(usize, Vec<u8>, usize)> {
+        match self.phase {
+            LedgerPhase::Writing(unit, made) => Some((unit, self.payload.clone(), made)),
+            LedgerPhase::Grouping(write, made) => {
+                let record = self.plan.count - 1;
+                let zeros = vec![0; self.width(record)];
+                Some(if write == 0 {
+                    let mut bytes = self.payload.clone();
+                    bytes.resize(self.width(record), 0);
+                    (record, bytes, made)
+                } else if write > self.members.len() {
+                    (record, zeros, made)
+                } else {
+                    let (unit, bytes) = self.members[write - 1].clone();
+                    (unit, bytes, made)
+                })
+            }
+            _ => None,
+        }
+    }
+
+    /// The write at hand passes at its store w + 2, "a member's write .. exactly
+    /// when its record's first write passed".
+    fn passes(&mut self) {
+        let Some((unit, bytes, _)) = self.write_at_hand() else { return };
+        match self.phase {
+            LedgerPhase::Grouping(0, _) => {
+                for (member, payload) in self.members.clone() {
+                    self.saved[member] = payload;
+                }
+                self.stands = true;
+            }
+            LedgerPhase::Grouping(write, _) => {
+                if write > self.members.len() {
+                    self.stands = false;
+                }
+            }
+            _ => {
+                self.saved[unit] = bytes.clone();
+                if unit == 0 {
+                    self.turns_passed += u128::from(self.turns);
+                }
+            }
+        }
+        self.mirror[unit] = bytes;
+    }
+
+    fn after_cleanup(&mut self) {
+        if self.stands {
+            let members = self.members.iter();
+            let bytes = members.flat_map(|(unit, payload)| {
+                std::iter::once(*unit as u8).chain(payload.iter().copied())
+            });
+            self.payload = std::iter::once(self.members.len() as u8).chain(bytes).collect();
+            self.phase = LedgerPhase::Grouping(1, 0);
+        } else {
+            self.phase = LedgerPhase::Ready;
+        }
+    }
+
+    fn step(&mut self) -> u8 {
+        if let LedgerPhase::Recovering(unit, made) = self.phase {
+            self.completed += 1;
+            self.phase = LedgerPhase::Recovering(unit, made + 1);
+            if made == self.width(unit) {
+                self.marker = 1;
+                self.after_cleanup();
+            }
+            return 0;
+        }
+        let Some((unit, _, made)) = self.write_at_hand() else { return 5 };
+        let w = self.width(unit);
+        self.completed += 1;
+        self.last = unit;
+        if made == 0 {
+            self.marker = 2;
+        } else if made == w + 1 {
+            self.marker = 4;
+            self.passes();
+        } else if made == 2 * w + 2 {
+            self.marker = 1;
+        }
+        self.phase = match self.phase {
+            LedgerPhase::Writing(..) if made == 2 * w + 2 => LedgerPhase::Ready,
+            LedgerPhase::Writing(..) => LedgerPhase::Writing(unit, made + 1),
+            LedgerPhase::Grouping(write, _) if made == 2 * w + 2 => {
+                if write > self.members.len() {
+                    LedgerPhase::Ready
+                } else {
+                    LedgerPhase::Grouping(write + 1, 0)
+                }
+            }
+            LedgerPhase::Grouping(write, _) => LedgerPhase::Grouping(write, made + 1),
+            other => other,
+        };
+        0
+    }
+
+    fn cut(&mut self, given: &[u8]) -> u8 {
+        if given.len() != self.plan.page {
+            return 18;
+        }
+        let torn = |new: u8, old: u8| -> u8 {
+            let bits = (0..8).map(|bit| 1 << bit);
+            bits.map(|bit| bit & if given[0] & bit != 0 { new } else { old }).sum()
+        };
+        if let LedgerPhase::Recovering(unit, made) = self.phase {
+            if made == self.width(unit) {
+                self.marker = torn(1, self.marker);
+            }
+        }
+        if let Some((unit, _, made)) = self.write_at_hand() {
+            let w = self.width(unit);
+            let old = if self.last == unit { self.marker } else { 1 };
+            self.last = unit;
+            self.marker = old;
+            if made == 0 {
+                self.marker = torn(2, old);
+            } else if made == w + 1 {
+                self.marker = torn(4, old);
+                if self.marker != 2 {
+                    self.passes();
+                }
+            } else if made == 2 * w + 2 {
+                self.marker = torn(1, old);
+            }
+        }
+        self.phase = LedgerPhase::Cold;
+        self.payload.clear();
+        self.ceiling += 1 + self.widest() + self.rewrite_stores();
+        0
+    }
+
+    fn begin(&mut self, unit: usize, payload: &[u8]) -> u8 {
+        if self.phase != LedgerPhase::Ready {
+            return 5;
+        }
+        if unit >= self.plan.count {
+            return 6;
+        }
+        if self.is_record(unit) {
+            return 20;
+        }
+        if payload.len() != self.width(unit) {
+            return 7;
+        }
+        if unit == self.last && self.marker != 1 {
+            return 8;
+        }
+        self.write(unit, payload.to_vec());
+        self.total_disturbed |= unit == 0;
+        self.turns = 0;
+        0
+    }
+
+    fn ride(&mut self, turns: u64) -> u8 {
+        if self.phase != LedgerPhase::Ready {
+            return 5;
+        }
+        let Ok(total) = <[u8; 8]>::try_from(&self.saved[0][..]) else { return 16 };
+        if self.is_record(0) {
+            return 20;
+        }
+        if self.last == 0 && self.marker != 1 {
+            return 8;
+        }
+        let sum = u128::from(u64::from_le_bytes(total)) + u128::from(turns);
+        let Ok(sum) = u64::try_from(sum) else { return 15 };
+        self.write(0, sum.to_le_bytes().to_vec());
+        self.turns = turns;
+        0
+    }
+
+    fn write(&mut self, unit: usize, payload: Vec<u8>) {
+        self.phase = LedgerPhase::Writing(unit, 0);
+        self.payload = payload;
+        self.ceiling += self.write_stores(unit);
+    }
+
+    fn group(&mut self, bytes: &[u8]) -> u8 {
+        if self.phase != LedgerPhase::Ready {
+            return 5;
+        }
+        let members = match self.split(bytes) {
+            Ok(members) => members,
+            Err(number) => return number,
+        };
+        let is_last = |unit: usize| unit == self.last;
+        let last_in_it =
+            self.is_record(self.last) || members.iter().any(|(unit, _)| is_last(*unit));
+        if last_in_it && self.marker != 1 {
+            return 8;
+        }
+        self.payload = [&[members.len() as u8], bytes].concat();
+        self.phase = LedgerPhase::Grouping(0, 0);
+        self.total_disturbed |= members.iter().any(|(unit, _)| *unit == 0);
+        self.ceiling += members.iter().map(|(unit, _)| self.write_stores(*unit)).sum::<u64>();
+        self.ceiling += 2 * self.write_stores(self.plan.count - 1);
+        self.members = members;
+        0
+    }
+
+    /// From a formatted device no marker is foreign, so wake gives no 14.
+    fn wake(&mut self) -> u8 {
+        if self.phase != LedgerPhase::Cold {
+            return 5;
+        }
+        if self.marker == 1 {
+            self.after_cleanup();
+        } else {
+            self.phase = LedgerPhase::Recovering(self.last, 0);
+        }
+        0
+    }
+
+    /// Takes a call and gives the number it must answer.
+    fn hear(&mut self, call: &Call) -> u8 {
+        match call {
+            Call::Begin { unit, payload } => self.begin(*unit, payload),
+            Call::Cut { given } => self.cut(given),
+            Call::Wake => self.wake(),
+            Call::Ride { turns } => self.ride(*turns),
+            Call::Group { bytes } => self.group(bytes),
+            Call::Step => self.step(),
+        }
+    }
+}
+
+/// One list under test: the device, the ledger, and what a group's units held
+/// when it was begun and hold if it passes, for a look without the ledger.
+struct Trial {
+    device: Device,
+    image: Vec<u8>,
+    ledger: Ledger,
+    calls: Vec<Call>,
+    group: Option<GroupAtHand>,
+}
+
+struct GroupAtHand {
+    old: Vec<Vec<u8>>,
+    new: Vec<Vec<u8>>,
+    passed: bool,
+}
+
+impl Trial {
+    fn new(plan: Plan, grouped: bool) -> Result<Trial, String> {
+        let laid_out = lay_out(plan, grouped);
+        let (device, image) = laid_out.map_err(|refusal| format!("{refusal:?}"))?;
+        let ledger = Ledger::new(plan, grouped);
+        Ok(Trial { device, image, ledger, calls: Vec::new(), group: None })
+    }
+
+    /// Makes a call and looks at every claim that can be judged after it.
+    fn make(&mut self, call: Call) -> Result<u8, String> {
+        let before = (self.device.clone(), self.image.clone());
+        let given = number(call.make(&mut self.device, &mut self.image));
+        let expected = self.ledger.hear(&call);
+        self.calls.push(call);
+        if given != expected {
+            return self.fail(&format!("answer {given}, the ledger's is {expected}"));
+        }
+        if given != 0 {
+            if (&self.device, &self.image) != (&before.0, &before.1) {
+                return self.fail("a refused call changed something");
+            }
+            return Ok(given);
+        }
+        self.look_at_group(before.0.phase)?;
+        self.look_at_ledger()?;
+        Ok(given)
+    }
+
+    /// "A member's write counts as passed exactly when its record's first write
+    /// passed": judged by the image alone, whenever the device is Ready.
+    fn look_at_group(&mut self, phase_before: Phase) -> Result<(), String> {
+        let plan = self.device.plan;
+        let copies = |image: &[u8]| -> Vec<Vec<u8>> {
+            (0..plan.count).map(|unit| image[plan.copy_a(unit)].to_vec()).collect()
+        };
+        if let Some(Call::Group { bytes }) = self.calls.last() {
+            let old = copies(&self.image);
+            let mut new = old.clone();
+            for member in self.device.members(bytes).unwrap_or_default() {
+                new[member.unit] = member.payload.to_vec();
+            }
+            self.group = Some(GroupAtHand { old, new, passed: false });
+        }
+        if let Some(Call::Begin { .. } | Call::Ride { .. }) = self.calls.last() {
+            self.group = None;
+        }
+        let record_unit = plan.count - 1;
+        let Some(group) = &mut self.group else { return Ok(()) };
+        let passing = Phase::Grouping { write: 0, made: plan.width(record_unit) + 1 };
+        if phase_before == passing {
+            group.passed |= self.image[plan.marker_place(record_unit)] != WRITING_A;
+        }
+        if self.device.phase != Phase::Ready {
+            return Ok(());
+        }
+        let expected = if group.passed { &group.new } else { &group.old };
+        if &copies(&self.image) != expected {
+            return self.fail("a group is neither all new nor all old, or the wrong one");
+        }
+        Ok(())
+    }
+
+    fn look_at_ledger(&self) -> Result<(), String> {
+        let (device, ledger, plan) = (&self.device, &self.ledger, &self.device.plan);
+        let phase = match device.phase {
+            Phase::Cold => LedgerPhase::Cold,
+            Phase::Ready => LedgerPhase::Ready,
+            Phase::Writing { unit, made } => LedgerPhase::Writing(unit, made),
+            Phase::Recovering { unit, made, .. } => LedgerPhase::Recovering(unit, made),
+            Phase::Grouping { write, made } => LedgerPhase::Grouping(write, made),
+        };
+        if phase != ledger.phase {
+            return self.fail("the phase is not the ledger's");
+        }
+        let mut payload = ledger.payload.clone();
+        payload.resize(MAX_WIDTH, 0);
+        if device.payload[..] != payload {
+            return self.fail("the payload is not the ledger's");
+        }
+        if u64::from(device.stores) != ledger.completed {
+            return self.fail("the count is not that of the completed stores");
+        }
+        if ledger.completed + ledger.to_come() > ledger.ceiling {
+            return self.fail("the count is above the ceiling, or will be");
+        }
+        for unit in 0..plan.count {
+            let marker = device.marker(unit, &self.image);
+            if marker != (if unit == ledger.last { ledger.marker } else { 1 }) || marker > 7 {
+                return self.fail("a marker is not the ledger's");
+            }
+            let (a, b) = (&self.image[plan.copy_a(unit)], &self.image[plan.copy_b(unit)]);
+            let good = match marker {
+                1 => a == ledger.mirror[unit] && b == ledger.mirror[unit],
+                2 => b == ledger.mirror[unit],
+                _ => a == ledger.mirror[unit],
+            };
+            if !good {
+                return self.fail("the good copy is not what last passed");
+            }
+            let standing = ledger.members.iter().filter(|_| ledger.stands);
+            let mut standing = standing.filter(|(member, _)| *member == unit);
+            let saved = standing.next().map_or(&ledger.mirror[unit], |(_, payload)| payload);
+            if !ledger.is_record(unit) && saved != &ledger.saved[unit] {
+                return self.fail("saved bytes are not the standing record's or the mirror's");
+            }
+        }
+        Ok(())
+    }
+
+    /// The closing cut, the wake, the steps to Ready, and the claims on them.
+    fn close(&mut self, given: Vec<u8>) -> Result<(), String> {
+        if self.make(Call::Cut { given })? != 0 {
+            return self.fail("the closing cut is refused");
+        }
+        let expected_steps = self.ledger.repair_stores();
+        let passed = self.ledger.saved.clone();
+        let turns = self.ledger.turns_passed;
+        self.make(Call::Wake)?;
+        let mut steps = 0;
+        while self.make(Call::Step)? == 0 {
+            steps += 1;
+        }
+        if steps != expected_steps {
+            return self.fail(&format!("{steps} steps to Ready, not {expected_steps}"));
+        }
+        if self.device.phase != Phase::Ready {
+            return self.fail("not Ready after the repair");
+        }
+        let plan = self.device.plan;
+        for unit in 0..plan.count {
+            let zeros = vec![0; plan.width(unit)];
+            let expected = if self.ledger.is_record(unit) { &zeros } else { &passed[unit] };
+            if self.device.marker(unit, &self.image) != OK {
+                return self.fail("a marker is not 1 after the repair");
+            }
+            if &self.image[plan.copy_a(unit)] != expected
+                || &self.image[plan.copy_b(unit)] != expected
+            {
+                return self.fail(&format!("unit {unit} does not hold what passed"));
+            }
+        }
+        if plan.width(0) == 8 && !self.ledger.is_record(0) && !self.ledger.total_disturbed {
+            let total = <[u8; 8]>::try_from(&self.image[plan.copy_a(0)]).map(u64::from_le_bytes);
+            if total.ok().map(u128::from) != Some(turns) {
+                return self.fail("the total is not the sum over rides that passed");
+            }
+        }
+        Ok(())
+    }
+
+    fn fail<T>(&self, what: &str) -> Result<T, String> {
+        let plan = &self.device.plan;
+        Err(format!(
+            "{what}\nwidths {:?}, page {}, grouped {}\n{:?}\nunits {:?}\n{}",
+            &plan.widths[..plan.count],
+            plan.page,
+            self.device.grouped,
+            self.device.phase,
+            plain(&self.image),
+            self.calls.iter().map(call_words).collect::<Vec<_>>().join("; "),
+        ))
+    }
+}
+
+fn plain(bytes: &[u8]) -> String {
+    bytes.iter().map(|byte| format!("{byte:02x}")).collect::<Vec<_>>().join(" ")
+}
+
+fn call_words(call: &Call) -> String {
+    match call {
+        Call::Begin { unit, payload } => format!("begin {unit} {}", plain(payload)),
+        Call::Cut { given } => format!("cut {}", plain(given)),
+        Call::Ride { turns } => format!("ride {turns}"),
+        Call::Group { bytes } => format!("group {}", plain(bytes)),
+        Call::Wake | Call::Step => call.word().into(),
+    }
+}
+
+// ---------------------------------------------------------- lists at random
+
+fn random_plan(random: &mut Random) -> Plan {
+    let count = match random.below(16) {
+        0 => 1,
+        1 => 2,
+        _ => random.of(&[3, 3, 3, 4, 4, 5, 6, 8]),
+    };
+    let mut widths = [0; MAX_UNITS];
+    for width in &mut widths[..count] {
+        *width = random.of(&[1, 1, 1, 2, 2, 3, 4, 5, 8, 9]);
+    }
+    if random.one_in(2) {
+        widths[0] = 8;
+    }
+    let all: u16 = widths[..count - 1].iter().map(|width| 1 + width).sum();
+    widths[count - 1] = match random.below(12) {
+        0 => 1 + random.below(12) as u16,
+        1 => 40,
+        2 => 5,
+        _ => 1 + all.min(24),
+    };
+    Plan { count, widths, page: random.of(&PAGE_SIZES) }
+}
+
+/// The bytes of a group, mostly of different units below the record.
+fn random_group(random: &mut Random, plan: &Plan) -> Vec<u8> {
+    let wild = random.one_in(8);
+    let mut units: Vec<usize> = (0..plan.count - usize::from(!wild)).collect();
+    let mut bytes = Vec::new();
+    for _ in 0..random.of(if wild { &[0, 1, 2, 3, 4, 5] } else { &[2, 2, 2, 3, 3, 4] }) {
+        if units.is_empty() {
+            break;
+        }
+        let at = random.below(units.len());
+        let unit = if wild { units[at] } else { units.swap_remove(at) };
+        bytes.push(unit as u8);
+        let byte = random.below(5) as u8; // looks like a unit number
+        let payload = random.bytes(plan.width(unit));
+        bytes.extend(if random.one_in(3) { vec![byte; payload.len()] } else { payload });
+    }
+    match random.below(40) {
+        0 => drop(bytes.pop()),
+        1 => bytes.push(random.below(4) as u8),
+        2 if !bytes.is_empty() => {
+            let at = random.below(bytes.len());
+            bytes[at] = random.below(9) as u8;
+        }
+        _ => {}
+    }
+    bytes
+}
+
+fn random_cut(random: &mut Random, plan: &Plan) -> Vec<u8> {
+    let length = if random.one_in(20) { random.below(18) } else { plan.page };
+    right_cut(random, length)
+}
+
+/// The first byte tears markers, so that those bits count most.
+fn right_cut(random: &mut Random, length: usize) -> Vec<u8> {
+    let mut given = random.bytes(length);
+    if let Some(first) = given.first_mut() {
+        *first = if random.one_in(3) { *first } else { random.below(8) as u8 };
+    }
+    given
+}
+
+/// A call that mostly goes on from the phase; one step in so many is a cut.
+fn random_call(random: &mut Random, device: &Device, steps_to_a_cut: usize) -> Call {
+    let plan = &device.plan;
+    let usual = match device.phase {
+        _ if random.one_in(60) => random.below(6),
+        Phase::Cold => 3,
+        Phase::Ready => random.of(&[1, 1, 4, 4, 5, 5, 5, 5, 5, 5]),
+        _ if random.one_in(steps_to_a_cut) => 2,
+        _ => 0,
+    };
+    match usual {
+        1 => {
+            let beyond = usize::from(random.one_in(10));
+            let unit = random.below(plan.count + beyond);
+            let width = if unit < plan.count { plan.width(unit) } else { 1 };
+            let length = if random.one_in(10) { random.below(9) } else { width };
+            Call::Begin { unit, payload: random.bytes(length) }
+        }
+        2 => Call::Cut { given: random_cut(random, plan) },
+        3 => Call::Wake,
+        4 => {
+            let turns = random.next();
+            Call::Ride { turns: if random.one_in(6) { turns } else { turns % 1000 } }
+        }
+        5 => Call::Group { bytes: random_group(random, plan) },
+        _ => Call::Step,
+    }
+}
+
+fn random_trial(random: &mut Random) -> Result<Trial, String> {
+    let plan = random_plan(random);
+    let mut trial = Trial::new(plan, !random.one_in(8))?;
+    let steps_to_a_cut = random.of(&[10, 30, 60, 60, 100, 150, 400]);
+    // In some lists unit 0 is written by rides alone.
+    let rides_alone = random.one_in(3);
+    for _ in 0..random.of(&[60, 150, 400, 400, 800]) {
+        let call = random_call(random, &trial.device, steps_to_a_cut);
+        let disturbs = match &call {
+            Call::Begin { unit, .. } => *unit == 0,
+            Call::Group { bytes } => trial
+                .device
+                .members(bytes)
+                .is_ok_and(|members| members.iter().any(|member| member.unit == 0)),
+            _ => false,
+        };
+        if !(rides_alone && disturbs) {
+            trial.make(call)?;
+        }
+    }
+    trial.close(right_cut(random, plan.page))?;
+    Ok(trial)
+}
+
+/// On (1 1 5): the group cut at each of its 36 stores and at none, with every
+/// byte that a marker can tell apart, and then so at each store of the repair.
+fn pairs_of_cuts() -> Result<usize, String> {
+    let plan = Plan::from_script(&[1, 1, 5], 1);
+    let mut pairs = 0;
+    for first in 0..=36 {
+        for first_byte in 0..8 {
+            let mut trial = Trial::new(plan, true)?;
+            trial.make(Call::Group { bytes: vec![0x00, 0x33, 0x01, 0x44] })?;
+            for _ in 0..first {
+                trial.make(Call::Step)?;
+            }
+            trial.make(Call::Cut { given: vec![first_byte] })?;
+            let most = trial.ledger.repair_stores();
+            let calls = trial.calls;
+            for second in 0..=most {
+                for second_byte in 0..8 {
+                    let mut trial = Trial::new(plan, true)?;
+                    for call in &calls {
+                        trial.make(call.clone())?;
+                    }
+                    trial.make(Call::Wake)?;
+                    for _ in 0..second {
+                        trial.make(Call::Step)?;
+                    }
+                    trial.close(vec![second_byte])?;
+                    pairs += 1;
+                }
+            }
+        }
+    }
+    Ok(pairs)
+}
+
+/// Devices and images of any kind, which no list need reach: a refused call
+/// changes nothing, and an accepted one leaves no phase that 4 refuses.
+fn random_device_trial(random: &mut Random) -> Result<(), String> {
+    let plan = random_plan(random);
+    let (_, mut device) = start(plan, !random.one_in(4));
+    device.stores = random.of(&[0, 7, u32::MAX - 1, u32::MAX]);
+    let mut image: Vec<u8> = (0..plan.image_length()).map(|_| random.below(5) as u8).collect();
+    for unit in 0..plan.count {
+        image[plan.marker_place(unit)] = random.of(&[1, 1, 1, 1, 1, 0, 2, 4, 6, 7, 8]);
+    }
+    let group = [&[random.below(6) as u8], &random_group(random, &plan)[..]].concat();
+    let record = plan.copy_a(plan.count - 1);
+    for (place, &byte) in image[record].iter_mut().zip(&group) {
+        *place = byte;
+    }
+    if !random.one_in(4) {
+        let length = group.len().min(MAX_WIDTH);
+        device.payload[..length].copy_from_slice(&group[..length]);
+    }
+    let (unit, made) = (random.below(plan.count + 1), random.below(60));
+    let direction = random.of(&[Direction::AToB, Direction::BToA]);
+    device.phase = match random.below(6) {
+        0 => Phase::Cold,
+        1 => Phase::Ready,
+        2 => Phase::Writing { unit, made: made % 12 },
+        3 => Phase::Recovering { unit, made: made % 6, direction },
+        _ => Phase::Grouping { write: random.below(7), made: made % random.of(&[3, 8, 60]) },
+    };
+    let call = random_call(random, &device, 4);
+    let before = (device.clone(), image.clone());
+    let answer = call.make(&mut device, &mut image);
+    let fault = match answer {
+        Err(_) if (&device, &image) != (&before.0, &before.1) => "a refused call changed something",
+        Ok(()) if device.check(&image).is_err() => "an accepted call left a phase that 4 refuses",
+        _ => return given_record_trial(&device, &group),
+    };
+    Err(format!("{fault}\n{:?}\n{}\n{}", before.0, plain(&before.1), call_words(&call)))
+}
+
+/// Whether a record is one that a group gives, in the words of the ticket: some
+/// group's bytes pass 19 to 21, and their count, they and zeros are the record.
+fn given_record_trial(device: &Device, bytes: &[u8]) -> Result<(), String> {
+    let Some(record_unit) = device.record_unit() else { return Ok(()) };
+    let mut record = bytes.to_vec();
+    record.resize(device.plan.width(record_unit), 0);
+    let given = (1..=record.len()).any(|end| {
+        let Ok(members) = device.members(&record[1..end]) else { return false };
+        let mut gives = [&[members.len() as u8], &record[1..end]].concat();
+        gives.resize(record.len(), 0);
+        gives == record
+    });
+    if given == device.members_of_record(&record).is_some() {
+        return Ok(());
+    }
+    Err(format!("given {given}: widths {:?}, record {}", device.plan.widths, plain(&record)))
+}
+
+const RANDOM_LISTS: usize = 4000;
+const RANDOM_DEVICES: usize = 200_000;
+
+/// Tries the claims; what the lists met is counted, so that none is empty.
+fn try_claims() -> Result<String, String> {
+    let mut random = Random { state: 10 };
+    let (mut groups, mut cuts, mut torn, mut rewrites) = (0, 0, 0, 0);
+    for _ in 0..RANDOM_LISTS {
+        let trial = random_trial(&mut random)?;
+        let (mut device, mut image) = lay_out(trial.device.plan, trial.device.grouped)
+            .map_err(|refusal| format!("{refusal:?}"))?;
+        for call in &trial.calls {
+            let phase = device.phase;
+            if call.make(&mut device, &mut image).is_err() {
+                continue;
+            }
+            match call {
+                Call::Group { .. } => groups += 1,
+                Call::Cut { .. } => {
+                    cuts += 1;
+                    torn += usize::from(matches!(phase, Phase::Grouping { .. }));
+                }
+                _ => {
+                    let again = Phase::Grouping { write: 1, made: 0 };
+                    let recovers = matches!(phase, Phase::Cold | Phase::Recovering { .. });
+                    rewrites += usize::from(recovers && device.phase == again);
+                }
+            }
+        }
+    }
+    let pairs = pairs_of_cuts()?;
+    for _ in 0..RANDOM_DEVICES {
+        random_device_trial(&mut random)?;
+    }
+    Ok(format!(
+        "{RANDOM_LISTS} lists ({groups} groups, {cuts} cuts, {torn} of them in a group phase, \
+         {rewrites} records written again), {pairs} pairs of cuts and {RANDOM_DEVICES} \
+         devices at random, every claim holds"
+    ))
+}
+
 fn selftest() -> io::Result<()> {
     let cases = cases()?;
     let mut wrong = 0;
@@ -1336,6 +3537,7 @@ fn selftest() -> io::Result<()> {
         return Err(io::Error::other(format!("{wrong} of {} cases are wrong", cases.len())));
     }
     println!("{} cases, all as worked out by hand", cases.len());
+    println!("{}", try_claims().map_err(io::Error::other)?);
     Ok(())
 }
 
@@ -1344,8 +3546,10 @@ fn main() -> ExitCode {
     let done = match arguments.iter().map(String::as_str).collect::<Vec<_>>()[..] {
         [] => play_input(Mode::Bench),
         ["looks"] => play_input(Mode::Looks),
+        ["lists"] => play_lists_input(),
+        ["together"] => together(),
         ["--selftest"] => selftest(),
-        _ => Err(io::Error::other("usage: simulator [looks | --selftest]")),
+        _ => Err(io::Error::other("usage: simulator [looks | lists | together | --selftest]")),
     };
     match done {
         Ok(()) => ExitCode::SUCCESS,

@@ -1,10 +1,10 @@
 -- The next store by the code's own tests on the number of stores made.
-use Prim.Native.Nat.{ℕ, _+_, _-_, _*_, _≤_, _<_}
-use mathlib.Core.Path.{_≡_, ap, _∙_}
-use mathlib.Core.List.{List, []}
+use Prim.Native.Nat.{ℕ, zero, suc, _+_, _-_, _*_, _≤_, _<_}
+use mathlib.Core.Path.{_≡_, refl, ap, _∙_}
+use mathlib.Core.List.{List, [], _∷_}
 use mathlib.Core.Option.{Option, some}
 use native.Mathlib.Omega.{arith}
-use lib.ListN.{getD, getElem?}
+use lib.ListN.{length, getD, getElem?}
 use Rattle.model.specs.declared.Plan.{Plan}
 use Rattle.model.specs.declared.Direction.{Direction}
 use Rattle.model.specs.declared.Direction.the-variants.{AToB, BToA}
@@ -75,3 +75,9 @@ module _ (p : Plan) (image : List ℕ) (u n w : ℕ) (d : Direction) (is : w ≡
   pub cleanup-OK : w ≤ n → n < width p u + 1 → getElem? (cleanupStores p image u d) n ≡ some (store u marker OK)
   unfolding next
   cleanup-OK h l = ap (getElem? (cleanupStores p image u d)) (omega arith) ∙ next-settle p [] image u d
+
+-- past the end of a payload there are zeros
+pub zero-past : (xs : List ℕ) (i : ℕ) → length xs ≤ i → 0 ≡ getD xs i 0
+zero-past [] i h = refl
+zero-past (x ∷ xs) zero h = absurd (omega arith)
+zero-past (x ∷ xs) (suc i) h = zero-past xs i (omega arith)

@@ -1,7 +1,7 @@
 // Which store comes next in a write or a cleanup: where in its unit, with which byte, and how many were left.
 ghost use mathlib.Core.Path.{_≡_};
 ghost use Prim.Native.Nat.{_≤_};
-ghost use lib.ListN.{length};
+ghost use lib.ListN.{length, getD};
 ghost use Rattle.lookup.specs.Spans.{Sound};
 ghost use Rattle.choice.specs.Picked.{Writes, Cleans};
 use lookup::Span;
@@ -26,10 +26,21 @@ fn pick(at: u32, byte: u8, left: u32) -> Choice
     }
 }
 
+// A byte of a payload; past its end there are zeros.
+fn byte_of(payload: &[u8], at: u32) -> u8
+    ensures { λ r. ⌜ r ≡ getD (now (payload .entry)) at 0 ⌝ }
+{
+    let place = at as usize;
+    if place < payload.len() {
+        return payload[place];
+    }
+    0
+}
+
 // The next store of a write: marker A, copy A, marker B, copy B, marker OK. What picks the store tells also whether it is the
 // last, or one too many.
 pub fn write_choice(span: Span, payload: &[u8], made: u16) -> Choice
-    requires { ⌜ Sound span × (length (now payload) ≡ 256) ⌝ }
+    requires { ⌜ Sound span ⌝ }
     ensures { λ r. ⌜ Writes span (now (payload .entry)) made r ⌝ }
 {
     let width = span.width;
@@ -39,14 +50,14 @@ pub fn write_choice(span: Span, payload: &[u8], made: u16) -> Choice
             return pick(0, Marker::A, 2);
         }
         let i = n - 1;
-        return pick(span.a + i, payload[i as usize], 2);
+        return pick(span.a + i, byte_of(payload, i), 2);
     }
     if n <= 2 * width + 1 {
         if n == width + 1 {
             return pick(0, Marker::B, 2);
         }
         let j = n - (width + 2);
-        return pick(span.b + j, payload[j as usize], 2);
+        return pick(span.b + j, byte_of(payload, j), 2);
     }
     if n == 2 * width + 2 {
         return pick(0, Marker::OK, 1);

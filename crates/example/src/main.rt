@@ -10,6 +10,7 @@ fn first_save(image: &mut [u8]) -> Device {
         count: 1,
         widths: [4, 0, 0, 0, 0, 0, 0, 0],
         page: 1,
+        grouped: false,
     };
     let started = Device::start(plan);
     let formatted = started.device.format(&mut image[..]);

@@ -1,6 +1,6 @@
 // What is filled with zeros: the units at format, and the payload that a device holds.
 ghost use mathlib.Core.Path.{_≡_};
-ghost use mathlib.Core.List.{_∷_};
+ghost use mathlib.Core.List.{_∷_, _++_};
 ghost use Prim.Native.Nat.{_-_, _<_, _≤_};
 ghost use lib.ListN.{length, replicate};
 ghost use Rattle.model.specs.Layout.{total, formatted};
@@ -47,16 +47,26 @@ pub fn format_units(plan: Plan, image: &mut [u8])
     }
 }
 
+// Bytes into a span, zeros after them.
+pub fn fill(span: &mut [u8], bytes: &[u8])
+    requires { ⌜ length (now bytes) ≤ length (now span) ⌝ }
+    ensures { λ _. ⌜ now (span .exit)
+        ≡ now (bytes .entry) ++ replicate (length (now (span .entry)) - length (now (bytes .entry))) 0 ⌝ }
+{
+    clear(&mut span[..]);
+    let mut i: usize = 0;
+    while i < bytes.len() {
+        span[i] = bytes[i];
+        i = i + 1;
+    }
+}
+
 // A payload as the device holds it: zeros after it.
 pub fn zero_filled(payload: &[u8]) -> [u8; 256]
     requires { ⌜ length (now payload) ≤ 256 ⌝ }
     ensures { λ r. ⌜ r ≡ padded (now (payload .entry)) ⌝ }
 {
     let mut held = [0u8; 256];
-    let mut i: usize = 0;
-    while i < payload.len() {
-        held[i] = payload[i];
-        i = i + 1;
-    }
+    fill(&mut held, payload);
     held
 }

@@ -12,7 +12,7 @@ use lib.ListN.{getD}
 use borrow.Author.Tests.{eqb-true, ltb-false}
 use Rattle.model.specs.declared.Plan.{Plan}
 use Rattle.model.specs.Plans.{PageSize, one, four, eight, sixteen}
-use Rattle.model.specs.Layout.{width, wholePages, copyLength, base, unitLength}
+use Rattle.model.specs.Layout.{width, wholePages, base, unitLength}
 use Rattle.model.specs.Refusals.{badCount, badWidths, badPage, startNumber}
 use Rattle.model.proofs.Compare.{below, above, order}
 use Rattle.model.proofs.RefusalLaws.{first-skip, first-stop, false-or, page-fits}
@@ -27,11 +27,11 @@ or-true false y e = e
 abbrev pub badWidth : Plan → ℕ → Bool
 badWidth p i = eqb (width p i) 0 || ltb 256 (width p i)
 
-pub widths-more : (p : Plan) (i : ℕ) → badWidths p i ≡ false → badWidth p i ≡ false → badWidths p (i + 1) ≡ false
+pub widths-more : (p : Plan) (i : ℕ) → badWidths (p .widths) i ≡ false → badWidth p i ≡ false → badWidths (p .widths) (i + 1) ≡ false
 unfolding badWidths
 widths-more p i h e = rw (add-one i, h) e
 
-pub widths-bad : (p : Plan) (n i : ℕ) → i < n → badWidth p i ≡ true → badWidths p n ≡ true
+pub widths-bad : (p : Plan) (n i : ℕ) → i < n → badWidth p i ≡ true → badWidths (p .widths) n ≡ true
 unfolding badWidths
 widths-bad p zero i h e = absurd (omega arith)
 widths-bad p (suc n) i h e =
@@ -39,7 +39,7 @@ widths-bad p (suc n) i h e =
       | below l ↦ rw (widths-bad p n i l e)
       | above l ↦
           let q : i ≡ n = omega arith in
-          or-true (badWidths p n) (badWidth p n) (rw q at e)
+          or-true (badWidths (p .widths) n) (badWidth p n) (rw q at e)
     ]
 
 -- a number that is neither 0 nor more than there may be
@@ -49,12 +49,12 @@ inside-most n most h = ltb-false most n (false-or (eqb n 0) (ltb most n) h .1)
 -- ---- pages
 -- the page that the code goes by: the plan's, or 1 if that is refused
 abbrev pub used : Plan → ℕ
-used p = cond (badPage p) 1 (p .page)
+used p = cond (badPage (p .page)) 1 (p .page)
 
 pub page-size : (p : Plan) (n : ℕ) → n ≡ used p → PageSize n
-page-size p n e = rw e (go (badPage p) refl)
+page-size p n e = rw e (go (badPage (p .page)) refl)
   where
-    go : (t : Bool) → badPage p ≡ t → PageSize (cond t 1 (p .page))
+    go : (t : Bool) → badPage (p .page) ≡ t → PageSize (cond t 1 (p .page))
     go true h = one
     go false h = page-fits p h
 
@@ -94,18 +94,18 @@ times-page n u eight = omega arith
 times-page n u sixteen = omega arith
 
 -- that the code's page is the plan's tells whether the plan's is refused
-pub page-kept : (p : Plan) (n : ℕ) → n ≡ used p → n ≡ p .page → badPage p ≡ false
+pub page-kept : (p : Plan) (n : ℕ) → n ≡ used p → n ≡ p .page → badPage (p .page) ≡ false
 unfolding badPage
-page-kept p n e h = go (badPage p) refl e
+page-kept p n e h = go (badPage (p .page)) refl e
   where
-    go : (t : Bool) → badPage p ≡ t → n ≡ cond t 1 (p .page) → t ≡ false
+    go : (t : Bool) → badPage (p .page) ≡ t → n ≡ cond t 1 (p .page) → t ≡ false
     go true b q =
         let one : p .page ≡ 1 = omega (arith, q, h) in
         absurd (true≢false (sym b ∙ rw one))
     go false b q = refl
 
-pub page-lost : (p : Plan) (n : ℕ) → n ≡ used p → ¬ (n ≡ p .page) → badPage p ≡ true
-page-lost p n e h = go (badPage p) e
+pub page-lost : (p : Plan) (n : ℕ) → n ≡ used p → ¬ (n ≡ p .page) → badPage (p .page) ≡ true
+page-lost p n e h = go (badPage (p .page)) e
   where
     go : (t : Bool) → n ≡ cond t 1 (p .page) → t ≡ true
     go true q = refl
@@ -154,11 +154,11 @@ module _ (p : Plan) where
   unfolding startNumber
   plan-one h = sym (first-stop 1 _ _ h)
 
-  pub plan-two : badCount p ≡ false → badWidths p (p .count) ≡ true → 2 ≡ startNumber p
+  pub plan-two : badCount p ≡ false → badWidths (p .widths) (p .count) ≡ true → 2 ≡ startNumber p
   unfolding startNumber
   plan-two h e = sym (first-skip 1 _ _ h ∙ first-stop 2 _ _ e)
 
-  pub plan-seventeen : badCount p ≡ false → badWidths p (p .count) ≡ false → badPage p ≡ true → 17 ≡ startNumber p
+  pub plan-seventeen : badCount p ≡ false → badWidths (p .widths) (p .count) ≡ false → badPage (p .page) ≡ true → 17 ≡ startNumber p
   unfolding startNumber
   plan-seventeen h e b = sym (first-skip 1 _ _ h ∙ first-skip 2 _ _ e ∙ first-stop 17 _ _ b)
 

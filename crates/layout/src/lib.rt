@@ -29,7 +29,7 @@ fn many_bytes(page: u16) -> bool
 
 // The bytes of a page; 1 for a size that is refused.
 fn page_of(plan: Plan) -> u32
-    ensures { λ r. ⌜ r ≡ cond (badPage plan) 1 (plan .page) ⌝ }
+    ensures { λ r. ⌜ r ≡ cond (badPage (plan .page)) 1 (plan .page) ⌝ }
 {
     let page = plan.page;
     if many_bytes(page) { page as u32 } else { 1 }
@@ -46,7 +46,7 @@ pub fn copy_length(width: u16, page: u32) -> u32
 }
 
 pub fn unit_length(plan: Plan, unit: u16) -> usize
-    requires { ⌜ badPage plan ≡ false ⌝ }
+    requires { ⌜ badPage (plan .page) ≡ false ⌝ }
     ensures { λ r. ⌜ (r ≡ unitLength plan unit) × (r ≤ 131116) ⌝ }
 {
     let page = page_of(plan);
@@ -56,7 +56,7 @@ pub fn unit_length(plan: Plan, unit: u16) -> usize
 
 // The image byte where a unit begins.
 pub fn base_of(plan: Plan, unit: u16) -> usize
-    requires { ⌜ badPage plan ≡ false ⌝ }
+    requires { ⌜ badPage (plan .page) ≡ false ⌝ }
     ensures { λ r. ⌜ (r ≡ base plan unit) × (r ≤ unit * 131116) ⌝ }
 {
     let mut sum: usize = 0;

@@ -323,6 +323,7 @@ fn plan_of(line: &[u8]) -> Plan {
         count: 0,
         widths: [0u16; 8],
         page: 1,
+        grouped: false,
     };
     let Line::Is(form) = script::form_of(line) else {
         return none;
@@ -337,6 +338,7 @@ fn plan_of(line: &[u8]) -> Plan {
         count: count as u16,
         widths: script::widths_at(line, at, count),
         page: page,
+        grouped: false,
     }
 }
 

@@ -1,23 +1,27 @@
 -- Refusals 3 and 4 behind a plan that is fine, and what a unit that was looked up has.
-use Prim.Native.Nat.{ℕ, zero, suc, _+_, _*_, _<_, _≤_}
-use mathlib.Core.Path.{_≡_, refl, ap, sym, _∙_, subst}
+use Prim.Native.Nat.{ℕ, zero, suc, _+_, _-_, _*_, _<_, _≤_}
+use mathlib.Core.Path.{_≡_, refl, ap, ap₂, sym, _∙_, subst}
 use mathlib.Core.List.{List, [], _∷_}
-use mathlib.Core.Bool.{Bool, false, _||_}
+use mathlib.Core.Bool.{Bool, true, false, _||_}
 use native.Mathlib.Omega.{arith}
 use lib.Dec.{leb}
-use lib.ListN.{length}
+use lib.ListN.{length, take, drop}
 use borrow.Author.Tests.{lt-ltb, le-ltb, le-leb, lt-leb, ltb-false}
 use Rattle.model.specs.declared.Plan.{Plan}
 use Rattle.model.specs.declared.Direction.{Direction}
 use Rattle.model.specs.declared.Phase.{Phase}
-use Rattle.model.specs.declared.Phase.the-variants.{Writing, Recovering}
-use Rattle.model.specs.Layout.{copyA, copyB, byte, width, unitLength, offset, base, total}
+use Rattle.model.specs.declared.Phase.the-variants.{Writing, Recovering, Grouping}
+use Rattle.model.specs.Layout.{copyA, copyB, byte, width, unitLength, offset, base, total, copyOf}
+use Rattle.model.specs.Groups.{writeAt}
 use Rattle.model.specs.Calls.{jobOf, viewOf}
-use Rattle.model.specs.Refusals.{SHORT-IMAGE, BAD-JOB, badJob, _when_, first, startNumber}
+use Rattle.model.specs.Refusals.{grouping, SHORT-IMAGE, BAD-JOB, badWrite, badJob, _when_, first, startNumber}
 use Rattle.model.proofs.Compare.{equal, differ, same}
 use Rattle.model.proofs.LayoutLaws.{copy-room, base-bound}
 use Rattle.model.proofs.RefusalLaws.{first-skip, first-stop, first-none, first-refused, plan-passed, PlanOk, page-some, page-fits, past, start-says, start-fine, count-bounds, width-bounds}
 use Rattle.model.specs.Plans.{PageSize}
+use Rattle.group.specs.declared.Part.{Part}
+use Rattle.group.specs.Parts.{PartOf}
+use Rattle.group.proofs.Next.{part-good}
 use Rattle.layout.proofs.Laws.{size-bounds, rounded-most}
 use Rattle.lookup.specs.declared.Span.{Span}
 use Rattle.lookup.specs.Spans.{imageRow, Live, spanOf, jobRow, Spans, Sound}
@@ -35,23 +39,58 @@ module _ (p : Plan) where
   base-small ok (suc u) h = omega (arith, base-small ok u (omega arith), unit-small ok u (omega arith))
 
 -- where plan and image are fine, refusal 4 is left: n is measure's number, b its total, k what is said of the job
-module _ (p : Plan) (phase : Phase) (length n b : ℕ) (e : n ≡ startNumber p) (z : n ≡ 0) (t : b ≡ total p) (l : b ≤ length) where
-  before-job : first (imageRow p phase length) ≡ first (4 when badJob p (jobOf phase) ∷ [])
+module _ (p : Plan) (payload : List ℕ) (phase : Phase) (length n b : ℕ) (e : n ≡ startNumber p) (z : n ≡ 0) (t : b ≡ total p) (l : b ≤ length) where
+  before-job : first (imageRow p payload phase length) ≡ first (4 when badJob p payload (jobOf phase) ∷ [])
   before-job = plan-passed p _ (sym e ∙ z) ∙ first-skip 3 _ _ (le-ltb length (total p) (rw t at l))
 
-  pub no-job : badJob p (jobOf phase) ≡ false → 0 ≡ first (imageRow p phase length)
+  pub no-job : badJob p payload (jobOf phase) ≡ false → 0 ≡ first (imageRow p payload phase length)
   no-job h = sym (before-job ∙ first-skip 4 _ [] h ∙ first-none)
 
   module _ (u made w k : ℕ) (ew : w ≡ width p u) where
     pub writing-job : phase ≡ Writing u made → k ≡ first (4 when (leb (p .count) u || leb (2 * w + 3) made) ∷ [])
-        → k ≡ first (imageRow p phase length)
+        → k ≡ first (imageRow p payload phase length)
     unfolding badJob
     writing-job is ek = ek ∙ sym (before-job ∙ rw (is, ← ew))
 
     pub cleaning-job : (d : Direction) → phase ≡ Recovering u made d
-        → k ≡ first (4 when (leb (p .count) u || leb (w + 1) made) ∷ []) → k ≡ first (imageRow p phase length)
+        → k ≡ first (4 when (leb (p .count) u || leb (w + 1) made) ∷ []) → k ≡ first (imageRow p payload phase length)
     unfolding badJob
     cleaning-job d is ek = ek ∙ sym (before-job ∙ rw (is, ← ew))
+
+  pub grouping-job : (i made k : ℕ) → phase ≡ Grouping i made → k ≡ first (4 when badJob p payload (grouping i made) ∷ [])
+      → k ≡ first (imageRow p payload phase length)
+  grouping-job i made k is ek = ek ∙ sym (before-job ∙ rw is)
+
+-- a write of a group that 4 may refuse for its stores: r is what was found, k the answer
+module _ {p : Plan} {payload : List ℕ} {i : ℕ} {r : Part} (found : PartOf p payload i r) (made : ℕ) where
+  abbrev atJob : ℕ
+  atJob = first (4 when badJob p payload (grouping i made) ∷ [])
+
+  job-is : (t : Bool) → badWrite p payload i ≡ t → r .number ≡ first (4 when t ∷ [])
+  job-is t e = found .number ∙ ap (λ (x : Bool). first (4 when x ∷ [])) e
+
+  pub no-part : ¬ (r .number ≡ 0) → r .number ≡ atJob
+  unfolding badJob first
+  no-part h = go (badWrite p payload i) refl
+    where
+      go : (t : Bool) → badWrite p payload i ≡ t → r .number ≡ atJob
+      go true e = job-is true e ∙ sym (rw e)
+      go false e = absurd (h (job-is false e))
+
+  module _ (w : ℕ) (z : r .number ≡ 0) (ew : w ≡ width p (r .unit)) where
+    good : badWrite p payload i ≡ false
+    good = part-good found z
+
+    wide : width p (writeAt p payload i .unit) ≡ w
+    wide = ap (width p) (sym (found .unit z)) ∙ sym ew
+
+    pub all-made : 2 * w + 3 ≤ made → 4 ≡ atJob
+    unfolding badJob
+    all-made h = sym (first-stop 4 _ [] (rw (good, wide) (le-leb (2 * w + 3) made h)))
+
+    pub not-made : made < 2 * w + 3 → 0 ≡ atJob
+    unfolding badJob
+    not-made h = sym (first-skip 4 _ [] (rw (good, wide) (lt-leb (2 * w + 3) made h)) ∙ first-none)
 
 -- ---- a unit looked up: r is the code's, part by part
 pub spanned : (p : Plan) (u : ℕ) (r : Span) → r .number ≡ 0 → r .base ≡ base p u → r .end ≡ base p u + unitLength p u
@@ -126,12 +165,20 @@ module _ (p : Plan) (ok : PlanOk p) (u : ℕ) (h : u < p .count) where
       ]
 
 -- ---- what a device that refusals 1 to 4 let pass has
-pub record Room (p : Plan) (phase : Phase) (image : List ℕ) : Type 0 where
+pub record Room (p : Plan) (payload : List ℕ) (phase : Phase) (image : List ℕ) : Type 0 where
   pub ok : PlanOk p
   pub long : total p ≤ length image
-  pub job : badJob p (jobOf phase) ≡ false
+  pub job : badJob p payload (jobOf phase) ≡ false
 
-pub room : (p : Plan) (phase : Phase) (image : List ℕ) → Live p phase image → Room p phase image
-room p phase image e =
-    let h = past (viewOf p phase image) [] e in
+pub room : (p : Plan) (payload : List ℕ) (phase : Phase) (image : List ℕ) → Live p payload phase image → Room p payload phase image
+room p payload phase image e =
+    let h = past (viewOf p payload phase image) [] e in
     record { ok = h .plan; long = ltb-false (length image) (total p) (h .long); job = h .job }
+
+-- the part of the image that is copy A of a unit that was looked up
+pub copy-part : (p : Plan) (image : List ℕ) (u : ℕ) (q : Span) → q ≡ spanOf p u
+    → take ((q .base + q .a + q .width) - (q .base + q .a)) (drop (q .base + q .a) image) ≡ copyOf p image u copyA
+unfolding copyOf
+copy-part p image u q is =
+    let size : (q .base + q .a + q .width) - (q .base + q .a) ≡ width p u = omega (arith, ap (λ (t : Span). t .width) is) in
+    ap₂ (λ (n i : ℕ). take n (drop i image)) size (ap (λ (t : Span). t .base + t .a) is)

@@ -27,12 +27,12 @@ spanOf p u =
     }
 
 -- refusals 1 to 4 and 17, for an image of n bytes
-abbrev pub imageRow : Plan → Phase → ℕ → List Refusal
-imageRow p phase n = firstFour p (ltb n (total p)) (jobOf phase)
+abbrev pub imageRow : Plan → List ℕ → Phase → ℕ → List Refusal
+imageRow p payload phase n = firstFour p (ltb n (total p)) payload (jobOf phase)
 
 -- they do not apply
-abbrev pub Live : Plan → Phase → List ℕ → Type 0
-Live p phase image = first (imageRow p phase (length image)) ≡ 0
+abbrev pub Live : Plan → List ℕ → Phase → List ℕ → Type 0
+Live p payload phase image = first (imageRow p payload phase (length image)) ≡ 0
 
 -- the row of a job at unit u; `late` is what refusal 4 says of its stores
 abbrev pub jobRow : Plan → ℕ → ℕ → Bool → ℕ

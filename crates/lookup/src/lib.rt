@@ -4,8 +4,12 @@ ghost use mathlib.Core.Path.{_≡_};
 ghost use mathlib.Core.Bool.{_||_};
 ghost use mathlib.Core.List.{[], _∷_};
 ghost use lib.Dec.{leb};
-ghost use Rattle.model.specs.Refusals.{_when_, first, startNumber};
+ghost use Prim.Native.Nat.{_≤_};
+ghost use Rattle.model.specs.Plans.{width};
+ghost use Rattle.model.specs.Groups.{last};
+ghost use Rattle.model.specs.Refusals.{grouping, badJob, _when_, first, startNumber};
 ghost use Rattle.lookup.specs.Spans.{imageRow, Spans};
+use group::part_of;
 use layout::copy_length;
 use layout::measure;
 use layout::width_of;
@@ -89,9 +93,26 @@ fn job_number(plan: Plan, unit: u16, made: u16, total: u32) -> u16
     0
 }
 
-// 0, or the lowest of the refusals 1 to 4, for an image of `length` bytes.
-pub fn device_number(plan: Plan, phase: Phase, length: usize) -> u16
-    ensures { λ r. ⌜ r ≡ first (imageRow plan phase length) ⌝ }
+// The same of a group: a write that its payload hasn't, or with as many stores made as it has.
+fn group_number(plan: Plan, payload: &[u8; 256], write: u16, made: u16) -> u16
+    requires { ⌜ width plan (last plan) ≤ 256 ⌝ }
+    ensures { λ r. ⌜ r ≡ first (4 when badJob plan (now (payload .entry)) (grouping write made) ∷ []) ⌝ }
+{
+    let part = part_of(plan, payload, write);
+    let number = part.number;
+    if number != 0 {
+        return number;
+    }
+    let width = width_of(plan, part.unit) as u32;
+    if 2 * width + 3 <= (made as u32) {
+        return BAD_JOB;
+    }
+    0
+}
+
+// 0, or the lowest of the refusals 1 to 4, for an image of `length` bytes. The payload is looked at in a group phase only.
+pub fn device_number(plan: Plan, payload: &[u8; 256], phase: Phase, length: usize) -> u16
+    ensures { λ r. ⌜ r ≡ first (imageRow plan (now (payload .entry)) phase length) ⌝ }
 {
     let whole = measure(plan, 0);
     let number = whole.number;
@@ -117,5 +138,6 @@ pub fn device_number(plan: Plan, phase: Phase, length: usize) -> u16
             let width = width_of(plan, unit) as u32;
             job_number(plan, unit, made, width + 1)
         }
+        Phase::Grouping { write, made } => group_number(plan, payload, write, made),
     }
 }

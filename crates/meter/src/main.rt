@@ -64,6 +64,7 @@ fn play(asked: [u8; 10], image: &mut [u8], payload: &[u8]) {
         count: number_of(asked[0], 0),
         widths: [width; 8],
         page: number_of(asked[9], 0),
+        grouped: false,
     };
     let started = Device::start(plan);
     let formatted = started.device.format(&mut image[..]);

@@ -1,27 +1,30 @@
 -- A torn page of a unit that was looked up is the model's.
-use Prim.Native.Nat.{ℕ, zero, suc, _+_, _-_, _*_, _/_, _<_, _≤_}
+use Prim.Native.Nat.{ℕ, _+_, _-_, _*_, _/_, _<_, _≤_}
 use mathlib.Core.Path.{_≡_, refl, ap, ap₂, sym, _∙_}
 use mathlib.Core.List.{List, [], _∷_}
 use mathlib.Core.Option.{Option, none, some}
-use mathlib.Core.Bool.{Bool, false, cond, _||_}
+use mathlib.Core.Bool.{false, _||_}
 use native.Mathlib.Omega.{arith}
 use native.Mathlib.Nat.{div-mul-le-self}
-use lib.Dec.{eqb, leb}
+use lib.Dec.{leb}
 use lib.ListN.{length, getD, getElem?, take, drop, length-drop}
 use lib.Seq.{sets, take-all}
-use borrow.Author.Tests.{eq-eqb, ne-eqb, leb-false, ltb-false}
+use borrow.Author.Tests.{ne-eqb, leb-false, ltb-false}
+use Rattle.group.specs.declared.Part.{Part}
+use Rattle.group.specs.Parts.{PartOf}
+use Rattle.group.proofs.Next.{part-stores, part-none, part-unit, part-made}
 use Rattle.choice.specs.declared.Choice.{Choice}
-use Rattle.choice.specs.Picked.{At, Picked, Writes, Cleans}
+use Rattle.choice.specs.Picked.{Picked, Writes, Cleans}
 use Rattle.lookup.specs.declared.Span.{Span}
 use Rattle.lookup.specs.Spans.{spanOf, Spans, Sound}
 use Rattle.lookup.proofs.Laws.{looked-up, span-sound, span-inside}
 use Rattle.model.specs.declared.Plan.{Plan}
 use Rattle.model.specs.declared.Direction.{Direction}
 use Rattle.model.specs.declared.Phase.{Phase}
-use Rattle.model.specs.declared.Phase.the-variants.{Writing, Recovering}
-use Rattle.model.specs.Layout.{copyA, copyB, Cell, marker, byte, width, unitLength, offset, base, total, place, pageAt, get, putPage}
-use Rattle.model.specs.Marker.{torn, End, tornBy}
-use Rattle.model.specs.Refusals.{writeTotal, cleanupTotal, badJob, cutNumber}
+use Rattle.model.specs.declared.Phase.the-variants.{Writing, Recovering, Grouping}
+use Rattle.model.specs.Layout.{copyA, copyB, Cell, marker, byte, width, unitLength, offset, base, total, place, get, putPage}
+use Rattle.model.specs.Marker.{torn, tornBy}
+use Rattle.model.specs.Refusals.{grouping, writeTotal, cleanupTotal, badJob, cutNumber}
 use Rattle.model.specs.Stores.{Store, store, writeStores, cleanupStores, pageLeft, stored}
 use Rattle.model.specs.Calls.{jobOf, viewOf, next}
 use Rattle.model.proofs.RefusalLaws.{PlanOk, page-some, false-or, CutPassed, cut-says}
@@ -72,10 +75,10 @@ pub record Tearing (p : Plan) (payload : List ℕ) (phase : Phase) (span : Span)
       → after ≡ stored p image (tornBy page) (next p payload image phase)
 
 module _ (p : Plan) (u : ℕ) (payload : List ℕ) (phase : Phase) (f : ℕ → ℕ) (made : ℕ) (image page : List ℕ)
-    (fine : cutNumber (viewOf p phase image) (length page) ≡ 0) (span : Span) (s : Spans p u (length image) span)
-    (row : badJob p (jobOf phase) ≡ (leb (p .count) u || leb (f (width p u)) made)) where
-  says : CutPassed (viewOf p phase image) (length page)
-  says = cut-says (viewOf p phase image) (length page) fine
+    (fine : cutNumber (viewOf p payload phase image) (length page) ≡ 0) (span : Span) (s : Spans p u (length image) span)
+    (job : PlanOk p → badJob p payload (jobOf phase) ≡ false → (u < p .count) × (made < f (width p u))) where
+  says : CutPassed (viewOf p payload phase image) (length page)
+  says = cut-says (viewOf p payload phase image) (length page) fine
 
   ok : PlanOk p
   ok = says .plan
@@ -84,7 +87,7 @@ module _ (p : Plan) (u : ℕ) (payload : List ℕ) (phase : Phase) (f : ℕ → 
   long = ltb-false (length image) (total p) (says .long)
 
   unit : u < p .count
-  unit = leb-false (p .count) u (false-or (leb (p .count) u) _ (sym row ∙ says .job) .0)
+  unit = job ok (says .job) .0
 
   is : span ≡ spanOf p u
   is = s .is (looked-up p ok u unit (length image) span long s)
@@ -108,7 +111,7 @@ module _ (p : Plan) (u : ℕ) (payload : List ℕ) (phase : Phase) (f : ℕ → 
     early : ¬ (c .left ≡ 0)
     early z =
         let wide : span .width ≡ width p u = ap (λ (t : Span). t .width) is in
-        absurd (omega (arith, rw wide at (h .left .none z), leb-false (f (width p u)) made (false-or (leb (p .count) u) _ (sym row ∙ says .job) .1)))
+        absurd (omega (arith, rw wide at (h .left .none z), job ok (says .job) .1))
 
     page-inside : span .base + pageFrom span (c .at) + span .a ≤ span .end
     page-inside =
@@ -140,12 +143,17 @@ unfolding stored
 none-torn p payload phase image page h = ap (stored p image (tornBy page)) (sym h)
 
 -- ---- by the phase's case
-module _ (p : Plan) (payload : List ℕ) (phase : Phase) (image page : List ℕ) (fine : cutNumber (viewOf p phase image) (length page) ≡ 0)
+in-job : (k u total made : ℕ) → leb k u || leb total made ≡ false → (u < k) × (made < total)
+in-job k u total made h =
+    let f = false-or (leb k u) _ h in
+    (leb-false k u (f .0), leb-false total made (f .1))
+
+module _ (p : Plan) (payload : List ℕ) (phase : Phase) (image page : List ℕ) (fine : cutNumber (viewOf p payload phase image) (length page) ≡ 0)
     (u made : ℕ) (span : Span) (s : Spans p u (length image) span) where
   module _ (e : phase ≡ Writing u made) where
-    writing-row : badJob p (jobOf phase) ≡ (leb (p .count) u || leb (writeTotal (width p u)) made)
+    writing-row : PlanOk p → badJob p payload (jobOf phase) ≡ false → (u < p .count) × (made < writeTotal (width p u))
     unfolding badJob
-    writing-row = rw e
+    writing-row ok h = in-job (p .count) u (writeTotal (width p u)) made (ap (λ (x : Phase). badJob p payload (jobOf x)) (sym e) ∙ h)
 
     writing-next : next p payload image phase ≡ getElem? (writeStores p u payload) made
     unfolding next
@@ -162,9 +170,9 @@ module _ (p : Plan) (payload : List ℕ) (phase : Phase) (image page : List ℕ)
         }
 
   module _ (d : Direction) (e : phase ≡ Recovering u made d) where
-    cleaning-row : badJob p (jobOf phase) ≡ (leb (p .count) u || leb (cleanupTotal (width p u)) made)
+    cleaning-row : PlanOk p → badJob p payload (jobOf phase) ≡ false → (u < p .count) × (made < cleanupTotal (width p u))
     unfolding badJob
-    cleaning-row = rw e
+    cleaning-row ok h = in-job (p .count) u (cleanupTotal (width p u)) made (ap (λ (x : Phase). badJob p payload (jobOf x)) (sym e) ∙ h)
 
     cleaning-next : next p payload image phase ≡ getElem? (cleanupStores p image u d) made
     unfolding next
@@ -179,3 +187,27 @@ module _ (p : Plan) (payload : List ℕ) (phase : Phase) (image page : List ℕ)
           inside = page-inside p u payload phase cleanupTotal made image page fine span s cleaning-row _ c h;
           torn = λ after. page-torn p u payload phase cleanupTotal made image page fine span s cleaning-row _ c h after cleaning-next;
         }
+
+-- ---- a group's write, found in the payload
+module _ (p : Plan) (payload : List ℕ) (i made : ℕ) (image page : List ℕ)
+    (fine : cutNumber (viewOf p payload (Grouping i made) image) (length page) ≡ 0)
+    (r : Part) (found : PartOf p payload i r) (span : Span) (s : Spans p (r .unit) (length image) span) where
+  group-row : PlanOk p → badJob p payload (grouping i made) ≡ false → (r .unit < p .count) × (made < writeTotal (width p (r .unit)))
+  group-row ok h = (part-unit found ok made h, part-made found ok made h)
+
+  pub group-looked : Fitted span image page
+  group-looked = looked p (r .unit) payload (Grouping i made) writeTotal made image page fine span s group-row
+
+  pub group-torn : (bytes : List ℕ) → bytes ≡ drop (r .from) payload → (c : Choice) → Writes span bytes made c
+      → Tearing p payload (Grouping i made) span image page c
+  unfolding next
+  group-torn bytes e c h =
+      let said = cut-says (viewOf p payload (Grouping i made) image) (length page) fine in
+      let z : r .number ≡ 0 = part-none found (said .plan) made (said .job) in
+      let comes : next p payload image (Grouping i made) ≡ getElem? (writeStores p (r .unit) bytes) made =
+      sym (ap (λ (xs : List ℕ). getElem? (writeStores p (r .unit) xs) made) e
+      ∙ ap (λ (xs : List Store). getElem? xs made) (part-stores found z)) in
+      record {
+        inside = page-inside p (r .unit) payload (Grouping i made) writeTotal made image page fine span s group-row _ c h;
+        torn = λ after. page-torn p (r .unit) payload (Grouping i made) writeTotal made image page fine span s group-row _ c h after comes;
+      }

@@ -4,6 +4,7 @@ ghost use mathlib.Core.List.{_∷_};
 ghost use Prim.Native.Nat.{_+_, _<_, _≤_};
 ghost use lib.ListN.{length, set, drop};
 ghost use lib.Seq.{sets};
+ghost use Rattle.model.specs.declared.Phase.the-variants.{Grouping};
 ghost use Rattle.model.specs.Marker.{torn, tornBy};
 ghost use Rattle.model.specs.Refusals.{cutNumber};
 ghost use Rattle.model.specs.Stores.{stored};
@@ -12,6 +13,7 @@ ghost use Rattle.lookup.specs.Spans.{Sound};
 ghost use Rattle.mirror.specs.Tears.{firstLeft, pageFrom, tornIn};
 use choice::clean_choice;
 use choice::write_choice;
+use group::part_of;
 use lookup::Span;
 use lookup::span_of;
 use model::Phase;
@@ -75,9 +77,23 @@ fn tear_at(image: &mut [u8], span: Span, at: u32, byte: u8, page: &[u8])
     put_page(&mut image[first..past], from, left, page);
 }
 
+// Tears the next store of a group.
+fn tear_group(plan: Plan, payload: &[u8], write: u16, made: u16, image: &mut [u8], page: &[u8])
+    requires { ⌜ (cutNumber (viewOf plan (now payload) (Grouping write made) (now image)) (length (now page)) ≡ 0)
+        × (length (now payload) ≡ 256) ⌝ }
+    ensures { λ _. ⌜ now (image .exit) ≡ stored plan (now (image .entry)) (tornBy (now (page .entry)))
+        (next plan (now (payload .entry)) (now (image .entry)) (Grouping write made)) ⌝ }
+{
+    let part = part_of(plan, payload, write);
+    let from = part.from;
+    let span = span_of(plan, part.unit, image.len());
+    let choice = write_choice(span, &payload[from..], made);
+    tear_at(&mut image[..], span, choice.at, choice.byte, page);
+}
+
 // Tears the next store of a phase, of which Cold and Ready have none. The cut is one that is not refused.
-pub fn tear_on(plan: Plan, payload: &[u8], phase: Phase, image: &mut [u8], page: &[u8])
-    requires { ⌜ (cutNumber (viewOf plan phase (now image)) (length (now page)) ≡ 0) × (length (now payload) ≡ 256) ⌝ }
+pub fn tear_on(plan: Plan, payload: &[u8; 256], phase: Phase, image: &mut [u8], page: &[u8])
+    requires { ⌜ cutNumber (viewOf plan (now payload) phase (now image)) (length (now page)) ≡ 0 ⌝ }
     ensures { λ _. ⌜ now (image .exit) ≡ stored plan (now (image .entry)) (tornBy (now (page .entry)))
         (next plan (now (payload .entry)) (now (image .entry)) phase) ⌝ }
 {
@@ -97,6 +113,9 @@ pub fn tear_on(plan: Plan, payload: &[u8], phase: Phase, image: &mut [u8], page:
             let span = span_of(plan, unit, image.len());
             let copied = clean_choice(span, &image[..], made, direction);
             tear_at(&mut image[..], span, copied.at, copied.byte, page);
+        }
+        Phase::Grouping { write, made } => {
+            tear_group(plan, payload, write, made, &mut image[..], page);
         }
     }
 }

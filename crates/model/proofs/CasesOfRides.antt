@@ -3,10 +3,11 @@ use mathlib.Core.Path.{refl}
 use Rattle.model.specs.Marker.{direction, tornBits, torn}
 use Rattle.model.specs.Layout.{wholePages, base, get, put, putPage, copyOf, fresh, formatted}
 use Rattle.model.specs.Turns.{amount, inBytes, plus}
+use Rattle.model.specs.Groups.{stands}
 use Rattle.model.specs.Refusals.{badCount, badWidths, badPage, badJob, first, startNumber, formatNumber, wakeNumber, stepNumber, cutNumber, anyForeign, beginNumber, rideNumber, totalNumber}
 use Rattle.model.specs.Stores.{copying, writeStores, cleanupStores, stored}
 use Rattle.model.specs.Calls as calls
-use Rattle.model.specs.Ledger.{opening, markerOf, told, writeMarker, cleanupMarker, saving, accepted, fed}
+use Rattle.model.specs.Ledger.{opening, markerOf, told, writeMarker, cleanupMarker, saving, savingAll, accepted, fed}
 use Rattle.model.specs.PowerCut.{call, run}
 use Rattle.model.specs.Totals.{passed, sum}
 use Rattle.model.specs.CasesOfRides.{EveryAmount, EveryBytes, EveryAsking, EveryRide, EveryTotal, EveryTally}
@@ -32,5 +33,5 @@ unfolding amount wholePages base get copyOf badCount badWidths badPage badJob fi
 every-total = refl
 
 pub every-tally : EveryTally
-unfolding amount inBytes plus direction tornBits torn wholePages base get put putPage copyOf fresh formatted badCount badWidths badPage badJob first startNumber formatNumber wakeNumber stepNumber cutNumber anyForeign beginNumber rideNumber copying writeStores cleanupStores stored calls.next calls.imageAfter calls.lowestBad calls.phaseAfter calls.counted calls.start calls.format calls.begin calls.ride calls.step calls.wake calls.cut opening markerOf told writeMarker cleanupMarker saving accepted fed call run passed sum
+unfolding amount inBytes plus direction tornBits torn wholePages base get put putPage copyOf fresh formatted badCount badWidths badPage badJob first startNumber formatNumber wakeNumber stepNumber cutNumber anyForeign beginNumber rideNumber copying writeStores cleanupStores stored calls.next calls.imageAfter calls.lowestBad calls.phaseAfter calls.payloadAfter calls.counted calls.start calls.format calls.begin calls.ride calls.step calls.wake calls.resumes stands calls.cut opening markerOf told writeMarker cleanupMarker saving savingAll accepted fed call run passed sum
 every-tally = refl

@@ -1,38 +1,43 @@
 -- Demands 1 and 2: every call does what specs/Demands.antt says.
 use Prim.Native.Nat.{ℕ, zero, suc, _+_, _-_, _*_, _/_, _%_, _≤_, _<_}
-use mathlib.Core.Path.{_≡_, refl, ap, sym, _∙_}
-use mathlib.Core.List.{List, [], _∷_}
+use mathlib.Core.Path.{_≡_, refl, ap, sym, _∙_, subst}
+use mathlib.Core.List.{List, []}
 use mathlib.Core.Option.{Option, none, some}
 use mathlib.Core.Bool.{Bool, true, false, cond, not, _||_, true≢false}
 use native.Mathlib.Omega.{arith}
 use native.Mathlib.Nat.{div-add-mod', mod-lt, add-mul, div-mul-le-self}
 use lib.Dec.{eqb, ltb, leb}
 use lib.ListN.{length, getD, take, drop, replicate, length-set, length-take, length-drop, length-append, length-replicate, List·getD-append}
-use lib.Seq.{sets, length-sets, getD-set-same, getD-set-other, getD-take, getD-drop, getD-append-add, take-all}
-use borrow.Author.Tests.{ne-eqb, lt-ltb, le-ltb, leb-false, ltb-false}
+use lib.Seq.{length-sets, getD-set-same, getD-set-other, getD-take, getD-drop, getD-append-add, take-all, ext-getD}
+use borrow.Author.Tests.{ne-eqb, lt-ltb, le-ltb, leb-false, ltb-false, lt-leb, le-leb}
 use Rattle.model.specs.declared.Plan.{Plan}
 use Rattle.model.specs.declared.Direction.{Direction}
 use Rattle.model.specs.declared.Direction.the-variants.{AToB, BToA}
 use Rattle.model.specs.declared.Phase.{Phase}
-use Rattle.model.specs.declared.Phase.the-variants.{Cold, Ready, Writing, Recovering}
+use Rattle.model.specs.declared.Phase.the-variants.{Cold, Ready, Writing, Recovering, Grouping}
 use Rattle.model.specs.Marker.{A, direction, completed, tornBy, tornBits, torn}
-use Rattle.model.specs.Layout.{copyA, copyB, Cell, marker, byte, InUnit, width, copyLength, base, total, place, pageAt, get, put, putPage, copyOf, formatted}
-use Rattle.model.specs.Refusals.{writeTotal, cleanupTotal, badJob, isCold, isReady, first, startNumber, formatNumber, beginNumber, stepNumber, wakeNumber, cutNumber, readNumber, inspectNumber, rideNumber, totalNumber}
+use Rattle.model.specs.Layout.{copyA, copyB, Cell, marker, byte, InUnit, width, base, total, place, pageAt, get, put, putPage, copyOf, formatted}
+use Rattle.model.specs.Groups.{Write, last, members, payloadOf, given, stands, writes, writeAt, isLastWrite}
+use Rattle.model.specs.Records.{Gives, WriteOf}
+use Rattle.model.specs.Refusals.{badWrite, groupNumber, writeTotal, cleanupTotal, badJob, isCold, isReady, first, startNumber, formatNumber, beginNumber, stepNumber, wakeNumber, cutNumber, readNumber, inspectNumber, rideNumber, totalNumber}
 use Rattle.model.specs.Turns.{amount, plus}
 use Rattle.model.specs.Stores.{Store, store, source, target, pageLeft, stored}
-use Rattle.model.specs.Calls.{Device, Outcome, outcome, view, unlessRefused, startAnswer, jobOf, next, imageAfter, phaseAfter, cleanupOf, cleanupFrom, lowestBad, inspection, counted, mostStores, padded, heldIn, totalUnlessRefused, asFormatted, asBegun, asStepped, asWoken, asCut, partUnlessRefused}
+use Rattle.model.specs.Calls.{Device, Outcome, outcome, view, unlessRefused, startAnswer, jobOf, next, imageAfter, phaseAfter, payloadAfter, recordIn, resumes, resumed, reloaded, stepFrom, wakeFrom, asGrouped, cleanupOf, cleanupFrom, lowestBad, inspection, counted, mostStores, padded, heldIn, totalUnlessRefused, asFormatted, asBegun, asCut, partUnlessRefused}
 use Rattle.model.specs.Calls as calls
 use Rattle.model.specs.Drive.{driveNumber, drive, driveUnlessRefused}
-use Rattle.model.specs.Demands.{Rounded, Lies, at, Does, Starts, OneByte, Formats, Begins, Rides, WriteStore, markerA, toA, markerB, toB, markerOK, CleanupStore, NextStore, ofWrite, ofCleanup, Way, fromA, fromB, Cleans, PhaseAfter, writing, written, cleaning, cleaned, Counts, more, most, Steps, Wakes, bit, Mixed, Torn, ofData, ofMarker, byMarker, Tears, CutImage, Cuts, Reads, Totals, Inspects, EveryCall, Drives, EveryDrive}
+use Rattle.model.specs.Demands.{Lies, at, Does, Starts, OneByte, Formats, Begins, Rides, Groups, WriteStore, markerA, toA, markerB, toB, markerOK, CleanupStore, NextStore, ofWrite, ofCleanup, ofGroup, Stands, Way, fromA, fromB, Cleans, PhaseAfter, writing, written, cleaning, cleaned, grouping, onward, grouped, Counts, more, most, Steps, Wakes, bit, Mixed, Torn, ofData, ofMarker, byMarker, Tears, CutImage, Cuts, Reads, Totals, Inspects, EveryCall, Drives, EveryDrive}
 use Rattle.model.specs.Demands as demands
 use Rattle.model.proofs.Compare.{below, above, order, equal, differ, same}
 use Rattle.model.proofs.MarkerLaws.{direction-A, direction-other, bits-more}
-use Rattle.model.proofs.RefusalLaws.{first-past, first-skip, first-stop, first-none, or-false, false-or, PlanOk, page-some, Past, past, cut-says, format-says, begin-says, width-bounds}
-use Rattle.model.proofs.LayoutLaws.{place-bound, page-inside, marker-page, copy-length, copy-byte, get-formatted, formatted-zero, length-formatted, rest-formatted}
+use Rattle.model.proofs.RefusalLaws.{first-past, first-skip, first-stop, first-none, or-false, false-or, PlanOk, page-some, past, cut-says, format-says, begin-says, width-bounds}
+use Rattle.model.proofs.LayoutLaws.{place-bound, page-inside, copy-length, copy-byte, get-formatted, formatted-zero, length-formatted, rest-formatted}
 use Rattle.model.proofs.PageLaws.{pages-room, rounded-pages}
 use Rattle.model.proofs.Runs.{sets-below, sets-above, sets-at}
 use Rattle.model.proofs.TurnLaws.{plus-size, plus-small, plus-amount, amount-first, held-amount, ride-says, ride-begins}
-use Rattle.model.proofs.StoreLaws.{next-A, next-to-A, next-B, next-to-B, next-OK, next-copy, next-settle, write-goes-on, write-ends, cleanup-goes-on, cleanup-ends}
+use Rattle.model.proofs.StoreLaws.{next-A, next-to-A, next-B, next-to-B, next-OK, next-copy, next-settle, write-goes-on, write-ends, cleanup-goes-on, cleanup-ends, cleanup-holds, cleanup-loads, next-task, task-goes-on, task-ends}
+use Rattle.model.proofs.Tasks.{Task, alone, part, phaseAt, taskWrite}
+use Rattle.model.proofs.GroupLaws.{group-says, wide-of, last-lt, part-says, part-sized, padded-size, stands-given}
+use Rattle.model.proofs.Records.{zero-past, last-is, is-last, group-gives, given-told, gives-fits, told-given, write-told, writes-count}
 use Rattle.model.proofs.InspectLaws.{Lowest, lowest-among, Names, names-lowest}
 
 -- ---- Refused and accepted.
@@ -69,6 +74,7 @@ started p = go (startNumber p)
           count = λ h. absurd (h refl);
           widths = λ h. absurd (h refl);
           page = λ h. absurd (h refl);
+          ungrouped = λ h. absurd (h refl);
           phase = refl;
           payload = refl;
           stores = refl;
@@ -79,6 +85,7 @@ started p = go (startNumber p)
           count = λ h. refl;
           widths = λ h. refl;
           page = λ h. refl;
+          ungrouped = λ h. refl;
           phase = refl;
           payload = refl;
           stores = refl;
@@ -169,6 +176,24 @@ rides d image turns e =
           ∙ ap (λ (n : ℕ). n + turns) (held-amount (d .plan) image 0);
     }
 
+-- ---- Group.
+grouped-by : (d : Device) (image g : List ℕ) → groupNumber (view d image) g ≡ 0
+    → Groups d image g (outcome 0 (asGrouped (payloadOf (d .plan) g) d) image)
+unfolding groupNumber
+grouped-by d image g e =
+    let p : Plan = d .plan in
+    let h = past (view d image) _ e in
+    let a = group-says (view d image) g e in
+    let wide = wide-of p g (a .wide) in
+    record {
+      plan = refl;
+      phase = refl;
+      stores = refl;
+      ms = members p g;
+      gives = group-gives p (h .plan) g (a .parts) (a .apart) (wide .0) (wide .1);
+      image′ = refl;
+    }
+
 -- ---- The next store of a device that refusals 1 to 4 let pass.
 pub record Found (d : Device) (image : List ℕ) : Type 0 where
   pub unit : ℕ
@@ -191,28 +216,38 @@ module _ (d : Device) (image : List ℕ) where
   found phase u c x now hu is inside rule =
       record { unit = u; cell = c; value = x; is = rw now is; there = hu; inside = inside; rule = rw now rule }
 
-  module _ (u made : ℕ) (now : d .phase ≡ Writing u made) (hu : u < p .count) where
+  -- a write of a begin or of a group
+  module _ (t : Task) (made : ℕ) (now : d .phase ≡ phaseAt t made) (hu : taskWrite p (d .payload) t .unit < p .count)
+      (told : (c : Cell) (x : ℕ) → WriteStore (width p (taskWrite p (d .payload) t .unit)) (taskWrite p (d .payload) t .bytes) made c x
+      → NextStore p (d .payload) image (phaseAt t made) (taskWrite p (d .payload) t .unit) c x) where
+    abbrev u : ℕ
+    u = taskWrite p (d .payload) t .unit
+
+    abbrev bytes : List ℕ
+    bytes = taskWrite p (d .payload) t .bytes
+
     abbrev w : ℕ
     w = width p u
 
     -- the store that a write makes after m, which are as many as it made
-    writes : (m : ℕ) (c : Cell) (x : ℕ) → made ≡ m → comes (Writing u m) ≡ some (store u c x) → InUnit w c
-        → WriteStore w (d .payload) made c x → Found d image
-    writes m c x e is inside rule = found (Writing u made) u c x now hu (rw e is) inside (ofWrite u made c x rule)
+    makes : (m : ℕ) (c : Cell) (x : ℕ) → made ≡ m → next p bytes image (Writing u m) ≡ some (store u c x) → InUnit w c
+        → WriteStore w bytes made c x → Found d image
+    makes m c x e is inside rule =
+        found (phaseAt t made) u c x now hu (next-task p (d .payload) image t made ∙ rw e is) inside (told c x rule)
 
     find-write : made < writeTotal w → Found d image
     find-write h =
         elim (same made 0) [
-          | equal e ↦ writes 0 marker 2 e (next-A p (d .payload) image u) tt (markerA e)
+          | equal e ↦ makes 0 marker 2 e (next-A p bytes image u) tt (markerA e)
           | differ n ↦ elim (order made (suc w)) [
-            | below l ↦ writes (suc (made - 1)) (byte copyA (made - 1)) _ (omega arith)
-                (next-to-A p (d .payload) image u (made - 1) (omega arith)) (omega arith) (toA (made - 1) (omega arith) (omega arith))
+            | below l ↦ makes (suc (made - 1)) (byte copyA (made - 1)) _ (omega arith)
+                (next-to-A p bytes image u (made - 1) (omega arith)) (omega arith) (toA (made - 1) (omega arith) (omega arith))
             | above l ↦ elim (same made (suc w)) [
-              | equal e ↦ writes (suc w) marker 4 e (next-B p (d .payload) image u) tt (markerB (omega arith))
+              | equal e ↦ makes (suc w) marker 4 e (next-B p bytes image u) tt (markerB (omega arith))
               | differ k ↦ elim (same made (suc (w + suc w))) [
-                | equal e ↦ writes (suc (w + suc w)) marker 1 e (next-OK p (d .payload) image u) tt (markerOK (omega arith))
-                | differ j ↦ writes (suc (w + suc (made - (w + 2)))) (byte copyB (made - (w + 2))) _ (omega arith)
-                    (next-to-B p (d .payload) image u (made - (w + 2)) (omega arith)) (omega arith)
+                | equal e ↦ makes (suc (w + suc w)) marker 1 e (next-OK p bytes image u) tt (markerOK (omega arith))
+                | differ j ↦ makes (suc (w + suc (made - (w + 2)))) (byte copyB (made - (w + 2))) _ (omega arith)
+                    (next-to-B p bytes image u (made - (w + 2)) (omega arith)) (omega arith)
                     (toB (made - (w + 2)) (omega arith) (omega arith))
               ]
             ]
@@ -240,15 +275,23 @@ module _ (d : Device) (image : List ℕ) where
         ]
 
   -- 4 does not apply, and the phase has a store to make
-  pub find : (phase : Phase) → d .phase ≡ phase → badJob p (jobOf phase) ≡ false
+  pub find : PlanOk p → (phase : Phase) → d .phase ≡ phase → badJob p (d .payload) (jobOf phase) ≡ false
       → isCold (jobOf phase) || isReady (jobOf phase) ≡ false → Found d image
   unfolding badJob
-  find Cold now fine busy = absurd (true≢false busy)
-  find Ready now fine busy = absurd (true≢false busy)
-  find (Writing u made) now fine busy =
+  find ok Cold now fine busy = absurd (true≢false busy)
+  find ok Ready now fine busy = absurd (true≢false busy)
+  find ok (Writing u made) now fine busy =
       let h = false-or (leb (p .count) u) (leb (writeTotal (width p u)) made) fine in
-      find-write u made now (leb-false (p .count) u (h .0)) (leb-false (writeTotal (width p u)) made (h .1))
-  find (Recovering u made way) now fine busy =
+      find-write (alone u) made now (leb-false (p .count) u (h .0)) (λ c x r. ofWrite u made c x r)
+      (leb-false (writeTotal (width p u)) made (h .1))
+  find ok (Grouping i made) now fine busy =
+      let h = false-or (badWrite p (d .payload) i) _ fine in
+      let fits = part-says p ok (d .payload) i (h .0) in
+      let told = given-told p ok (d .payload) (fits .valid) in
+      find-write (part i) made now (part-sized p ok (d .payload) i (h .0) .unit)
+      (λ c x r. ofGroup (told .g) _ (told .ms) i made _ c x (told .gives) (write-told p ok (told .gives) i (fits .below)) r)
+      (leb-false _ made (h .1))
+  find ok (Recovering u made way) now fine busy =
       let h = false-or (leb (p .count) u) (leb (cleanupTotal (width p u)) made) fine in
       find-cleanup u made way now (leb-false (p .count) u (h .0)) (leb-false (cleanupTotal (width p u)) made (h .1))
 
@@ -260,35 +303,124 @@ way-of m =
       | differ h ↦ rw (direction-other m h) (fromA h)
     ]
 
-cleans-from : (p : Plan) (image : List ℕ) (n u : ℕ) → u + n ≡ p .count → Cleans p image u (cleanupOf p image (lowestBad p image n u))
-unfolding get
-cleans-from p image n u e = go (lowestBad p image n u) (lowest-among p image n u)
-  where
-    go : (found : Option ℕ) → Lowest p image u n found → Cleans p image u (cleanupOf p image found)
-    go none h = demands.Cleans.none (λ v l k. h v l (omega arith))
-    go (some t) h = demands.Cleans.lowest t _ (h .0) (omega (arith, h .1)) (h .2) (h .3) (way-of (get p image t marker))
+-- a record stands exactly if the definition says so
+padded-past : (bytes : List ℕ) (i : ℕ) → length bytes ≤ i → getD (padded bytes) i 0 ≡ 0
+padded-past bytes i h =
+    ap (λ (q : ℕ). getD (padded bytes) q 0) {x = i} {y = length bytes + (i - length bytes)} (omega arith)
+    ∙ getD-append-add bytes (replicate (256 - length bytes) 0) (i - length bytes) 0
+    ∙ zero-past (256 - length bytes) (i - length bytes)
+
+module _ (p : Plan) (ok : PlanOk p) (image : List ℕ) (long : total p ≤ length image) where
+  abbrev r : ℕ
+  r = last p
+
+  record-size : length (recordIn p image) ≡ width p (last p)
+  record-size = copy-length p ok image r copyA (last-lt p ok) long
+
+  record-byte : (i : ℕ) → i < width p (last p) → getD (padded (recordIn p image)) i 0 ≡ at p image (last p) (byte copyA i)
+  unfolding get
+  record-byte i h =
+      List·getD-append (recordIn p image) (replicate (256 - length (recordIn p image)) 0) 0 i (omega (arith, record-size))
+      ∙ copy-byte p ok image r copyA i h
+
+  stands-told : stands p (recordIn p image) ≡ true → Stands p image (padded (recordIn p image))
+  stands-told e =
+      let t = given-told p ok (padded (recordIn p image)) (sym (stands-given p (recordIn p image)) ∙ e) in
+      record { g = t .g; ms = t .ms; gives = t .gives; r = last p; isLast = is-last p; same = record-byte }
+
+  told-stands : (held : List ℕ) → Stands p image held → stands p (recordIn p image) ≡ true
+  told-stands held s = stands-given p (recordIn p image) ∙ ap (given p) same ∙ told-given p ok (s .gives) .1
+    where
+      narrow : suc (length (s .g)) ≤ width p (last p)
+      narrow = gives-fits p (s .gives)
+
+      small : width p (last p) ≤ 256
+      small = width-bounds p ok (last p) (last-lt p ok) .1
+
+      is : s .r ≡ last p
+      is = last-is p (s .r) (s .isLast)
+
+      same-byte : (i : ℕ) → getD (padded (recordIn p image)) i 0 ≡ getD held i 0
+      same-byte i =
+          elim (order i (width p (last p))) [
+            | below l ↦
+                record-byte i l ∙ ap (λ (q : ℕ). at p image q (byte copyA i)) (sym is)
+                ∙ sym (s .same i (omega (arith, ap (width p) is)))
+            | above l ↦
+                padded-past (recordIn p image) i (omega (arith, record-size))
+                ∙ sym (s .gives .zeros i (omega (arith, narrow)))
+          ]
+
+      same : padded (recordIn p image) ≡ held
+      same =
+          ext-getD 0 (padded (recordIn p image)) held
+          (padded-size p ok (recordIn p image) (omega (arith, record-size, small)) ∙ sym (s .gives .size)) (λ i l. same-byte i)
+
+  cleans-from : (payload : List ℕ) (n u : ℕ) → u + n ≡ p .count
+      → Cleans p image payload u (resumed p image (cleanupOf p image (lowestBad p image n u)))
+      (reloaded p image (cleanupOf p image (lowestBad p image n u)) payload)
+  unfolding get resumes
+  cleans-from payload n u e = go (lowestBad p image n u) (lowest-among p image n u)
+    where
+      all-good : ((v : ℕ) → u ≤ v → v < p .count → at p image v marker ≡ 1) → (t : Bool) → stands p (recordIn p image) ≡ t
+          → Cleans p image payload u (cond t (Grouping 1 0) Ready) (cond t (padded (recordIn p image)) payload)
+      all-good h true q = demands.Cleans.goesOn (padded (recordIn p image)) h (stands-told q)
+      all-good h false q = demands.Cleans.none h (λ held s. true≢false (sym (told-stands held s) ∙ q))
+
+      go : (found : Option ℕ) → Lowest p image u n found
+          → Cleans p image payload u (resumed p image (cleanupOf p image found)) (reloaded p image (cleanupOf p image found) payload)
+      go none h = all-good (λ v l k. h v l (omega arith)) (stands p (recordIn p image)) refl
+      go (some t) h = demands.Cleans.lowest t _ (h .0) (omega (arith, h .1)) (h .2) (h .3) (way-of (get p image t marker))
 
 -- ---- Step.
-phase-after : (p : Plan) (image′ : List ℕ) (phase : Phase) → badJob p (jobOf phase) ≡ false
-    → isCold (jobOf phase) || isReady (jobOf phase) ≡ false → PhaseAfter p image′ phase (phaseAfter p image′ phase)
-unfolding badJob
-phase-after p image′ Cold fine busy = absurd (true≢false busy)
-phase-after p image′ Ready fine busy = absurd (true≢false busy)
-phase-after p image′ (Writing u made) fine busy =
+phase-after : (p : Plan) → PlanOk p → (image′ payload : List ℕ) → total p ≤ length image′ → (phase : Phase)
+    → badJob p payload (jobOf phase) ≡ false → isCold (jobOf phase) || isReady (jobOf phase) ≡ false
+    → PhaseAfter p image′ payload phase (phaseAfter p payload image′ phase) (payloadAfter p payload image′ phase)
+unfolding badJob payloadAfter isLastWrite
+phase-after p ok image′ payload long Cold fine busy = absurd (true≢false busy)
+phase-after p ok image′ payload long Ready fine busy = absurd (true≢false busy)
+phase-after p ok image′ payload long (Writing u made) fine busy =
     let l = leb-false (writeTotal (width p u)) made (false-or (leb (p .count) u) _ fine .1) in
     elim (same (suc made) (writeTotal (width p u))) [
-      | equal e ↦ rw (write-ends p image′ u made e) (written u made e)
-      | differ h ↦ rw (write-goes-on p image′ u made h) (writing u made (omega arith))
+      | equal e ↦ rw (write-ends p payload image′ u made e) (written u made e)
+      | differ h ↦ rw (write-goes-on p payload image′ u made h) (writing u made (omega arith))
     ]
-phase-after p image′ (Recovering u made way) fine busy =
+phase-after p ok image′ payload long (Recovering u made way) fine busy =
     let h = false-or (leb (p .count) u) _ fine in
     let l = leb-false (cleanupTotal (width p u)) made (h .1) in
     let hu = leb-false (p .count) u (h .0) in
     elim (same (suc made) (cleanupTotal (width p u))) [
-      | equal e ↦ rw (cleanup-ends p image′ u made way e)
-          (cleaned u made way _ e (cleans-from p image′ (p .count - suc u) (suc u) (omega arith)))
-      | differ n ↦ rw (cleanup-goes-on p image′ u made way n) (cleaning u made way (omega arith))
+      | equal e ↦ rw (cleanup-ends p payload image′ u made way e, cleanup-loads p payload image′ u made way e)
+          (cleaned u made way _ _ e (cleans-from p ok image′ long payload (p .count - suc u) (suc u) (omega arith)))
+      | differ n ↦ rw (cleanup-goes-on p payload image′ u made way n, cleanup-holds p payload image′ u made way n)
+          (cleaning u made way (omega arith))
     ]
+phase-after p ok image′ payload long (Grouping i made) fine busy =
+    let w : ℕ = width p (writeAt p payload i .unit) in
+    let h = false-or (badWrite p payload i) _ fine in
+    let l = leb-false (writeTotal w) made (h .1) in
+    let fits = part-says p ok payload i (h .0) in
+    let told = given-told p ok payload (fits .valid) in
+    let at-write = write-told p ok (told .gives) i (fits .below) in
+    elim (same (suc made) (writeTotal w)) [
+      | equal e ↦ rw (task-ends p payload image′ (part i) made AToB e)
+          (elim (order (suc i) (length (writes p payload))) [
+            | below k ↦ rw (lt-leb (length (writes p payload)) (suc i) k)
+                (onward (told .g) _ (told .ms) i made _ (told .gives) at-write e (omega (arith, writes-count p ok (told .gives))))
+            | above k ↦
+                let is : i ≡ suc (length (told .ms)) = omega (arith, fits .below, writes-count p ok (told .gives)) in
+                rw (le-leb (length (writes p payload)) (suc i) k)
+                (ended is (told .gives) at-write e)
+          ])
+      | differ n ↦ rw (task-goes-on p payload image′ (part i) made n)
+          (grouping (told .g) _ (told .ms) i made _ (told .gives) at-write (omega arith))
+    ]
+  where
+    ended : {i u made : ℕ} {g bytes : List ℕ} {ms : List Write} → i ≡ suc (length ms) → Gives p payload g ms → WriteOf p payload ms i u bytes
+        → suc made ≡ 2 * width p u + 3 → PhaseAfter p image′ payload (Grouping i made) Ready payload
+    ended {i} {u} {made} {g} {bytes} {ms} is gives of e =
+        subst (λ (k : ℕ). PhaseAfter p image′ payload (Grouping k made) Ready payload) (sym is)
+        (grouped g bytes ms made u gives (subst (λ (k : ℕ). WriteOf p payload ms k u bytes) is of) e)
 
 counts : (n : ℕ) → Counts n (counted n)
 unfolding counted
@@ -299,33 +431,36 @@ counts n =
     ]
 
 steps : (d : Device) (image : List ℕ) → stepNumber (view d image) ≡ 0
-    → Steps d image (outcome 0 (asStepped (phaseAfter (d .plan) (imageAfter completed d image) (d .phase)) d) (imageAfter completed d image))
+    → Steps d image (outcome 0 (stepFrom d (imageAfter completed d image)) (imageAfter completed d image))
 unfolding stepNumber imageAfter stored
 steps d image e =
     let h = past (view d image) _ e in
     let busy = first-past 4 (isCold (jobOf (d .phase)) || isReady (jobOf (d .phase))) [] (h .more) .0 in
-    let f = find d image (d .phase) refl (h .job) busy in
+    let f = find d image (h .plan) (d .phase) refl (h .job) busy in
+    let long : total (d .plan) ≤ length image = ltb-false (length image) (total (d .plan)) (h .long) in
+    let one : OneByte image (imageAfter completed d image) (place (d .plan) (f .unit) (f .cell)) (f .value) =
+    rw (f .is) (one-byte (d .plan) image (f .unit) (f .cell) (f .value) (h .plan) long (f .there) (f .inside)) in
     record {
       unit = f .unit;
       cell = f .cell;
       value = f .value;
       store = f .rule;
-      image′ = rw (f .is) (one-byte (d .plan) image (f .unit) (f .cell) (f .value) (h .plan)
-          (ltb-false (length image) (total (d .plan)) (h .long)) (f .there) (f .inside));
+      image′ = one;
       plan = refl;
-      payload = refl;
-      phase = phase-after (d .plan) (imageAfter completed d image) (d .phase) (h .job) busy;
+      phase = phase-after (d .plan) (h .plan) (imageAfter completed d image) (d .payload) (omega (arith, one .size, long)) (d .phase) (h .job) busy;
       stores = counts (d .stores);
     }
 
 -- ---- Wake.
 wakes : (d : Device) (image : List ℕ) → wakeNumber (view d image) ≡ 0
-    → Wakes d image (outcome 0 (asWoken (cleanupFrom (d .plan) image 0) d) image)
+    → Wakes d image (outcome 0 (wakeFrom d image (cleanupFrom (d .plan) image 0)) image)
+unfolding wakeNumber
 wakes d image e =
+    let h = past (view d image) _ e in
     record {
       plan = refl;
-      payload = refl;
-      phase = cleans-from (d .plan) image (d .plan .count - 0) 0 (omega arith);
+      phase = cleans-from (d .plan) (h .plan) image (ltb-false (length image) (total (d .plan)) (h .long)) (d .payload)
+          (d .plan .count - 0) 0 (omega arith);
       stores = refl;
       image′ = refl;
     }
@@ -381,7 +516,7 @@ tears d image bytes e busy =
     let fine = cut-says (view d image) (length bytes) e in
     let size = fine .size in
     let some = page-some (d .plan) (fine .plan) in
-    let f = find d image (d .phase) refl (fine .job) busy in
+    let f = find d image (fine .plan) (d .phase) refl (fine .job) busy in
     let q : ℕ = place (d .plan) (f .unit) (f .cell) in
     let from : ℕ = pageAt (d .plan) q in
     let inside = page-inside (d .plan) (fine .plan) (f .unit) (f .cell) (f .there) (f .inside) in
@@ -417,6 +552,7 @@ cuts d image bytes e =
     go Ready now = rw now
     go (Writing u made) now = tears d image bytes e (rw now)
     go (Recovering u made way) now = tears d image bytes e (rw now)
+    go (Grouping i made) now = tears d image bytes e (rw now)
 
 -- ---- Read.
 read-there : (d : Device) (image : List ℕ) (u : ℕ) → readNumber (view d image) u ≡ 0
@@ -465,7 +601,7 @@ inspects d image = go (inspectNumber (view d image)) (lowestBad (d .plan) image 
     go zero none e h = (e, h)
 
 pub every-call : EveryCall
-unfolding calls.format calls.begin calls.ride calls.step calls.wake calls.cut
+unfolding calls.format calls.begin calls.ride calls.group calls.step calls.wake calls.cut
 every-call d image =
     let stepped : List ℕ = imageAfter completed d image in
     record {
@@ -477,10 +613,12 @@ every-call d image =
           (outcome 0 (asBegun u (padded payload) d) image) refl (begins d image u payload);
       ride = λ turns. does (Rides d image turns) (rideNumber (view d image) (heldIn d image 0) turns) d image
           (outcome 0 (asBegun 0 (padded (plus (heldIn d image 0) turns)) d) image) refl (rides d image turns);
+      group = λ g. does (Groups d image g) (groupNumber (view d image) g) d image
+          (outcome 0 (asGrouped (payloadOf (d .plan) g) d) image) refl (grouped-by d image g);
       step = does (Steps d image) (stepNumber (view d image)) d image
-          (outcome 0 (asStepped (phaseAfter (d .plan) stepped (d .phase)) d) stepped) refl (steps d image);
+          (outcome 0 (stepFrom d stepped) stepped) refl (steps d image);
       wake = does (Wakes d image) (wakeNumber (view d image)) d image
-          (outcome 0 (asWoken (cleanupFrom (d .plan) image 0) d) image) refl (wakes d image);
+          (outcome 0 (wakeFrom d image (cleanupFrom (d .plan) image 0)) image) refl (wakes d image);
       cut = λ bytes. does (Cuts d image bytes) (cutNumber (view d image) (length bytes)) d image
           (outcome 0 (asCut d) (imageAfter (tornBy bytes) d image)) refl (cuts d image bytes);
       read = reads d image;

@@ -2,31 +2,32 @@
 use Prim.Native.Nat.{ℕ, zero, suc, _+_, _-_, _≤_, _<_}
 use mathlib.Core.Path.{_≡_, refl, ap, ap₂, sym, _∙_, subst}
 use mathlib.Core.List.{List, [], _∷_, _++_}
-use mathlib.Core.Option.{Option, none, some}
-use mathlib.Core.Bool.{Bool, true, false, cond, not, _||_}
+use mathlib.Core.Option.{Option, some}
+use mathlib.Core.Bool.{Bool, true, false, cond, not, _||_, _&&_}
 use native.Mathlib.Omega.{arith}
 use lib.Dec.{eqb, ltb, leb}
 use lib.ListN.{length, getD, set, take, getElem?, length-set, List·getD-eq-default}
 use lib.Seq.{sets, getD-set-same, getD-set-other}
 use borrow.Author.Tests.{leb-false, ltb-false}
 use Rattle.model.specs.declared.Plan.{Plan}
-use Rattle.model.specs.declared.Direction.{Direction}
 use Rattle.model.specs.declared.Phase.{Phase}
-use Rattle.model.specs.declared.Phase.the-variants.{Cold, Ready, Writing, Recovering}
+use Rattle.model.specs.declared.Phase.the-variants.{Cold, Ready, Writing, Recovering, Grouping}
 use Rattle.model.specs.Marker.{OK, direction, End, completed, tornBy}
 use Rattle.model.specs.Layout.{Copy, copyA, Cell, marker, byte, width, total, place, pageAt, get, put, putPage, copyOf}
-use Rattle.model.specs.Refusals.{cleanupTotal, badJob, isCold, isReady, Refusal, _when_, first, deviceRow, stepNumber, readNumber, totalNumber}
+use Rattle.model.specs.Refusals.{cleanupTotal, badJob, isCold, isReady, Refusal, _when_, first, deviceRow, stepNumber, wakeNumber, readNumber, totalNumber}
+use Rattle.model.specs.Groups.{last, stands}
 use Rattle.model.specs.Turns.{amount, plus}
 use Rattle.model.specs.Stores.{Store, store, copying, source, target, cleanupStores, pageLeft, stored}
-use Rattle.model.specs.Calls.{Device, Outcome, outcome, padded, asBegun, asStepped, asWoken, view, jobOf, next, imageAfter, heldIn, cleanupOf, cleanupFrom, phaseAfter, lowestBad, inspection, partUnlessRefused, Total, totalUnlessRefused}
+use Rattle.model.specs.Calls.{Device, Outcome, outcome, padded, asBegun, asStepped, asWoken, view, jobOf, next, imageAfter, heldIn, cleanupOf, cleanupFrom, phaseAfter, payloadAfter, recordIn, resumes, resumed, reloaded, lowestBad, inspection, partUnlessRefused, totalUnlessRefused}
 use Rattle.model.specs.Calls as calls
-use Rattle.model.specs.Ledger.{Call, begin, ride, step, cut, wake}
+use Rattle.model.specs.Ledger.{Call, begin, ride, group, step, cut, wake}
 use Rattle.model.specs.PowerCut.{call, run, answers}
 use Rattle.model.specs.Filler.{SameCells, SameOutcome, FillerUnread}
 use Rattle.model.proofs.Compare.{Order, below, above, order, equal, differ, same}
 use Rattle.model.proofs.RefusalLaws.{PlanOk, false-or, count-bounds, past, first-past, Alike, step-alike, cut-alike, wake-alike, begin-alike, read-alike, total-alike, inspect-alike, cut-says}
 use Rattle.model.proofs.LayoutLaws.{copy-is, copy-length, copy-byte, length-stored}
 use Rattle.model.proofs.TurnLaws.{ride-says, ride-alike}
+use Rattle.model.proofs.GroupLaws.{last-lt, group-alike}
 use Rattle.model.proofs.Demands.{find}
 
 -- ---- A store, or a run of stores, in two lists of one length: a place that had the same byte in both has the same still.
@@ -60,12 +61,13 @@ copying-same u c f g (suc n) i h =
 
 module _ (p : Plan) (x y : List ℕ) (s : SameCells p x y) where
   -- ---- the next store
-  next-same : (payload : List ℕ) (phase : Phase) → badJob p (jobOf phase) ≡ false
+  next-same : (payload : List ℕ) (phase : Phase) → badJob p payload (jobOf phase) ≡ false
       → next p payload x phase ≡ next p payload y phase
   unfolding next badJob cleanupStores
   next-same payload Cold e = refl
   next-same payload Ready e = refl
   next-same payload (Writing u made) e = refl
+  next-same payload (Grouping i made) e = refl
   next-same payload (Recovering u made d) e =
       let h = leb-false (p .count) u (false-or (leb (p .count) u) _ e .0) in
       ap (λ (t : List Store). getElem? (t ++ (store u marker OK ∷ [])) made)
@@ -115,21 +117,40 @@ module _ (p : Plan) (x y : List ℕ) (s : SameCells p x y) where
   found-same : (u : ℕ) → u ≤ p .count → cleanupFrom p x u ≡ cleanupFrom p y u
   found-same u h = cleanup-same (p .count - u) u (omega arith)
 
-  after-same : (phase : Phase) → badJob p (jobOf phase) ≡ false → phaseAfter p x phase ≡ phaseAfter p y phase
-  unfolding phaseAfter badJob
-  after-same Cold e = refl
-  after-same Ready e = refl
-  after-same (Writing u made) e = refl
-  after-same (Recovering u made d) e =
-      let h = leb-false (p .count) u (false-or (leb (p .count) u) _ e .0) in
-      ap (λ (t : Phase). cond (eqb (suc made) (cleanupTotal (width p u))) t (Recovering u (suc made) d)) (found-same (suc u) h)
-
   -- ---- a copy
   copy-same : PlanOk p → total p ≤ length x → (u : ℕ) → u < p .count → copyOf p x u copyA ≡ copyOf p y u copyA
   copy-same ok h u hu =
       let long : total p ≤ length y = omega (arith, s .size) in
       copy-is p ok x u copyA (copyOf p y u copyA) hu h (copy-length p ok y u copyA hu long)
       (λ i l. s .cells u hu (byte copyA i) l ∙ sym (copy-byte p ok y u copyA i l))
+
+  module _ (ok : PlanOk p) (long : total p ≤ length x) where
+    record-same : recordIn p x ≡ recordIn p y
+    record-same = copy-same ok long (last p) (last-lt p ok)
+
+    resumed-same : (u : ℕ) → u ≤ p .count → resumed p x (cleanupFrom p x u) ≡ resumed p y (cleanupFrom p y u)
+    unfolding resumes
+    resumed-same u h =
+        ap₂ (λ (r : List ℕ) (found : Phase). cond (isReady (jobOf found) && stands p r) (Grouping 1 0) found) record-same (found-same u h)
+
+    reloaded-same : (payload : List ℕ) (u : ℕ) → u ≤ p .count
+        → reloaded p x (cleanupFrom p x u) payload ≡ reloaded p y (cleanupFrom p y u) payload
+    unfolding resumes
+    reloaded-same payload u h =
+        ap₂ (λ (r : List ℕ) (found : Phase). cond (isReady (jobOf found) && stands p r) (padded r) payload) record-same (found-same u h)
+
+    after-same : (payload : List ℕ) (phase : Phase) → badJob p payload (jobOf phase) ≡ false
+        → (phaseAfter p payload x phase ≡ phaseAfter p payload y phase) × (payloadAfter p payload x phase ≡ payloadAfter p payload y phase)
+    unfolding phaseAfter payloadAfter badJob
+    after-same payload Cold e = (refl, refl)
+    after-same payload Ready e = (refl, refl)
+    after-same payload (Writing u made) e = (refl, refl)
+    after-same payload (Grouping i made) e = (refl, refl)
+    after-same payload (Recovering u made d) e =
+        let h = leb-false (p .count) u (false-or (leb (p .count) u) _ e .0) in (
+          ap (λ (t : Phase). cond (eqb (suc made) (cleanupTotal (width p u))) t (Recovering u (suc made) d)) (resumed-same (suc u) h),
+          ap (λ (t : List ℕ). cond (eqb (suc made) (cleanupTotal (width p u))) t payload) (reloaded-same payload (suc u) h),
+        )
 
 -- ---- The calls.
 module _ (d : Device) (x y : List ℕ) (s : SameCells (d .plan) x y) where
@@ -139,6 +160,7 @@ module _ (d : Device) (x y : List ℕ) (s : SameCells (d .plan) x y) where
         plan = refl;
         short = ap (λ (n : ℕ). ltb n (total (d .plan))) (s .size);
         job = refl;
+        bad = refl;
         marker = λ u h. s .cells u h marker tt;
       }
 
@@ -149,14 +171,14 @@ module _ (d : Device) (x y : List ℕ) (s : SameCells (d .plan) x y) where
   settle (suc n) zero o o′ e h = absurd (omega arith)
   settle (suc n) (suc n′) o o′ e h = record { number = e; device = refl; image = s }
 
-  image-same : (e : End) → badJob (d .plan) (jobOf (d .phase)) ≡ false
+  image-same : (e : End) → PlanOk (d .plan) → badJob (d .plan) (d .payload) (jobOf (d .phase)) ≡ false
       → SameCells (d .plan) (imageAfter e d x) (imageAfter e d y)
   unfolding imageAfter stored next
-  image-same e fine = go (d .phase) refl
+  image-same e ok fine = go (d .phase) refl
     where
       busy : isCold (jobOf (d .phase)) || isReady (jobOf (d .phase)) ≡ false → SameCells (d .plan) (imageAfter e d x) (imageAfter e d y)
       busy b =
-          let f = find d x (d .phase) refl fine b in
+          let f = find d x ok (d .phase) refl fine b in
           rw (sym (next-same (d .plan) x y s (d .payload) (d .phase) fine), f .is)
           (stored-same (d .plan) x y s e (store (f .unit) (f .cell) (f .value)) (f .there))
 
@@ -165,6 +187,11 @@ module _ (d : Device) (x y : List ℕ) (s : SameCells (d .plan) x y) where
       go Ready now = rw now s
       go (Writing u made) now = busy (rw now)
       go (Recovering u made way) now = busy (rw now)
+      go (Grouping i made) now = busy (rw now)
+
+  image-size : (e : End) (image : List ℕ) → length (imageAfter e d image) ≡ length image
+  unfolding imageAfter
+  image-size e image = length-stored (d .plan) image e (next (d .plan) (d .payload) image (d .phase))
 
   held-same : PlanOk (d .plan) → ltb (length x) (total (d .plan)) ≡ false → (u : ℕ) → u < d .plan .count → heldIn d x u ≡ heldIn d y u
   held-same ok long = copy-same (d .plan) x y s ok (ltb-false (length x) (total (d .plan)) long)
@@ -173,7 +200,7 @@ module _ (d : Device) (x y : List ℕ) (s : SameCells (d .plan) x y) where
   first-held ok long = held-same ok long 0 (count-bounds (d .plan) ok .0)
 
   call-same : (c : Call) (n n′ : ℕ) → SameOutcome (call c (outcome n d x)) (call c (outcome n′ d y))
-  unfolding call calls.begin calls.ride calls.step calls.cut calls.wake stepNumber
+  unfolding call calls.begin calls.ride calls.group calls.step calls.cut calls.wake stepNumber wakeNumber
   call-same (begin u payload) n n′ =
       settle _ _ _ _ (begin-alike alike u (length payload)) (λ z. record { number = refl; device = refl; image = s })
   call-same (ride turns) n n′ =
@@ -185,24 +212,34 @@ module _ (d : Device) (x y : List ℕ) (s : SameCells (d .plan) x y) where
         device = ap (λ (bytes : List ℕ). asBegun 0 (padded (plus bytes turns)) d) (first-held (r .plan) (r .long));
         image = s;
       })
+  call-same (group g) n n′ =
+      settle _ _ _ _ (group-alike alike g) (λ z. record { number = refl; device = refl; image = s })
   call-same step n n′ =
       settle _ _ _ _ (step-alike alike)
       (λ z.
-      let h = past (view d x) _ z .job in
-      let t = image-same completed h in
+      let h = past (view d x) _ z in
+      let t = image-same completed (h .plan) (h .job) in
+      let long : total (d .plan) ≤ length (imageAfter completed d x) =
+      omega (arith, image-size completed x, ltb-false (length x) (total (d .plan)) (h .long)) in
+      let same = after-same (d .plan) _ _ t (h .plan) long (d .payload) (d .phase) (h .job) in
       record {
         number = refl;
-        device = ap (λ (phase : Phase). asStepped phase d) (after-same (d .plan) _ _ t (d .phase) h);
+        device = ap₂ (λ (phase : Phase) (held : List ℕ). asStepped phase held d) (same .0) (same .1);
         image = t;
       })
   call-same (cut bytes) n n′ =
       settle _ _ _ _ (cut-alike alike (length bytes))
-      (λ z. record { number = refl; device = refl; image = image-same (tornBy bytes) (cut-says (view d x) (length bytes) z .job) })
+      (λ z. record { number = refl; device = refl; image = let h = cut-says (view d x) (length bytes) z in image-same (tornBy bytes) (h .plan) (h .job) })
   call-same wake n n′ =
       settle _ _ _ _ (wake-alike alike)
-      (λ z. record {
+      (λ z.
+      let h = past (view d x) _ z in
+      let long = ltb-false (length x) (total (d .plan)) (h .long) in
+      record {
         number = refl;
-        device = ap (λ (phase : Phase). asWoken phase d) (found-same (d .plan) x y s 0 (omega arith));
+        device = ap₂ (λ (phase : Phase) (held : List ℕ). asWoken phase held d)
+            (resumed-same (d .plan) x y s (h .plan) long 0 (omega arith))
+            (reloaded-same (d .plan) x y s (h .plan) long (d .payload) 0 (omega arith));
         image = s;
       })
 

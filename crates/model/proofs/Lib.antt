@@ -5,11 +5,14 @@ pub mod Runs
 pub mod PageLaws
 pub mod LayoutLaws
 pub mod Tasks
+pub mod GroupLaws
+pub mod Records
 pub mod StoreLaws
 pub mod InspectLaws
 pub mod WorkedCases
 pub mod CasesOfRides
 pub mod CasesOfPages
+pub mod CasesOfGroups
 pub mod TurnLaws
 pub mod Demands
 pub mod Refuses
@@ -18,8 +21,10 @@ pub mod Filler
 pub mod LedgerLaws
 pub mod Invariant
 pub mod Keeps
+pub mod Promise
 pub mod Theorem
 pub mod Wear
 pub mod Totals
+pub mod Together
 pub mod Restart
 pub mod InARow

@@ -1,5 +1,5 @@
 -- Pages of one byte: a plan with p = 1 has the places and the images that document 01 alone has.
-use Prim.Native.Nat.{ℕ, zero, suc, _+_, _-_, _*_, _/_}
+use Prim.Native.Nat.{ℕ, zero, suc, _+_, _-_, _*_}
 use mathlib.Core.Path.{_≡_, refl, ap, ap₂, _∙_}
 use mathlib.Core.List.{List, [], _∷_, _++_}
 use native.Mathlib.Omega.{arith}
@@ -7,8 +7,8 @@ use lib.ListN.{getD, set, take, drop, replicate}
 use lib.Seq.{sets}
 use Rattle.model.specs.declared.Plan.{Plan}
 use Rattle.model.specs.Layout.{copyA, copyB, Cell, marker, byte, width, wholePages, copyLength, unitLength, base, place, pageAt, get, putPage, fresh, formatted}
-use Rattle.model.specs.Stores.{Store, pageLeft, stored}
-use Rattle.model.specs.PageOne.{oldBase, oldPlace, oldFresh, oldTorn, OldImages, PageOne}
+use Rattle.model.specs.Stores.{pageLeft, stored}
+use Rattle.model.specs.PageOne.{oldBase, oldPlace, oldFresh, oldTorn, PageOne}
 
 module _ (p : Plan) (one : p .page ≡ 1) where
   copy-one : (u : ℕ) → copyLength p u ≡ width p u

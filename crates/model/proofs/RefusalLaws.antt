@@ -10,8 +10,9 @@ use Rattle.model.specs.declared.Plan.{Plan}
 use Rattle.model.specs.Plans.{PageSize, one, four, eight, sixteen}
 use Rattle.model.specs.Layout.{width}
 use Rattle.model.specs.Marker.{OK}
-use Rattle.model.specs.Refusals.{Job, cold, ready, writing, recovering, isCold, isReady, writeTotal, cleanupTotal, View, badCount, badWidths, badPage, badJob, Refusal, _when_, first, planRow, deviceRow, anyForeign, startNumber, formatNumber, wakeNumber, stepNumber, cutNumber, inspectNumber, readNumber, beginNumber, totalNumber}
+use Rattle.model.specs.Refusals.{Job, cold, ready, writing, recovering, isCold, isReady, writeTotal, cleanupTotal, View, badCount, badWidths, badPage, badJob, Refusal, _when_, first, planRow, deviceRow, anyForeign, startNumber, formatNumber, wakeNumber, stepNumber, cutNumber, inspectNumber, readNumber, beginNumber, totalNumber, grouping, badWrite}
 use Rattle.model.proofs.Compare.{below, above, order, equal, differ, same}
+use Rattle.model.specs.Groups.{isRecord, writeAt}
 
 -- ---- the first refusal that holds
 pub first-past : (n : ℕ) (t : Bool) (rest : List Refusal) → first (suc n when t ∷ rest) ≡ 0 → (t ≡ false) × (first rest ≡ 0)
@@ -94,15 +95,15 @@ false-or false y e = (refl, e)
 -- ---- a plan that start accepts
 pub record PlanOk (p : Plan) : Type 0 where
   pub count : badCount p ≡ false
-  pub widths : badWidths p (p .count) ≡ false
-  pub page : badPage p ≡ false
+  pub widths : badWidths (p .widths) (p .count) ≡ false
+  pub page : badPage (p .page) ≡ false
 
 pub start-says : (p : Plan) → startNumber p ≡ 0 → PlanOk p
 unfolding startNumber
 start-says p e =
     let h₁ = first-past 0 (badCount p) _ e in
-    let h₂ = first-past 1 (badWidths p (p .count)) _ (h₁ .1) in
-    record { count = h₁ .0; widths = h₂ .0; page = first-past 16 (badPage p) [] (h₂ .1) .0 }
+    let h₂ = first-past 1 (badWidths (p .widths) (p .count)) _ (h₁ .1) in
+    record { count = h₁ .0; widths = h₂ .0; page = first-past 16 (badPage (p .page)) [] (h₂ .1) .0 }
 
 pub start-fine : (p : Plan) → PlanOk p → startNumber p ≡ 0
 unfolding startNumber
@@ -125,10 +126,10 @@ pub width-bounds : (p : Plan) → PlanOk p → (u : ℕ) → u < p .count → (0
 unfolding badWidths
 width-bounds p ok u h = go (p .count) (ok .widths) h
   where
-    go : (n : ℕ) → badWidths p n ≡ false → u < n → (0 < width p u) × (width p u ≤ 256)
+    go : (n : ℕ) → badWidths (p .widths) n ≡ false → u < n → (0 < width p u) × (width p u ≤ 256)
     go zero e l = absurd (omega arith)
     go (suc n) e l =
-        let q = false-or (badWidths p n) _ e in
+        let q = false-or (badWidths (p .widths) n) _ e in
         elim (order u n) [
           | below r ↦ go n (q .0) r
           | above r ↦
@@ -138,7 +139,7 @@ width-bounds p ok u h = go (p .count) (ok .widths) h
               rw t (omega arith, ltb-false 256 (width p n) (f .1))
         ]
 
-pub page-fits : (p : Plan) → badPage p ≡ false → PageSize (p .page)
+pub page-fits : (p : Plan) → badPage (p .page) ≡ false → PageSize (p .page)
 unfolding badPage
 page-fits p e = go (p .page) (not-false _ e)
   where
@@ -155,7 +156,7 @@ page-fits p e = go (p .page) (not-false _ e)
           ]
         ]
 
-pub fits-page : (p : Plan) → PageSize (p .page) → badPage p ≡ false
+pub fits-page : (p : Plan) → PageSize (p .page) → badPage (p .page) ≡ false
 unfolding badPage
 fits-page p size = go (p .page) size
   where
@@ -180,16 +181,16 @@ page-some p ok =
 pub record Past (v : View) (rest : List Refusal) : Type 0 where
   pub plan : PlanOk (v .plan)
   pub long : v .short ≡ false
-  pub job : badJob (v .plan) (v .job) ≡ false
+  pub job : badJob (v .plan) (v .payload) (v .job) ≡ false
   pub more : first rest ≡ 0
 
 pub past : (v : View) (rest : List Refusal) → first (deviceRow v ++ rest) ≡ 0 → Past v rest
 unfolding startNumber
 past v rest e =
-    let behind : List Refusal = 3 when v .short ∷ 4 when badJob (v .plan) (v .job) ∷ rest in
+    let behind : List Refusal = 3 when v .short ∷ 4 when badJob (v .plan) (v .payload) (v .job) ∷ rest in
     let z : startNumber (v .plan) ≡ 0 = first-front (planRow (v .plan)) behind e in
     let h₃ = first-past 2 (v .short) _ (sym (plan-passed (v .plan) behind z) ∙ e) in
-    let h₄ = first-past 3 (badJob (v .plan) (v .job)) _ (h₃ .1) in
+    let h₄ = first-past 3 (badJob (v .plan) (v .payload) (v .job)) _ (h₃ .1) in
     record { plan = start-says (v .plan) z; long = h₃ .0; job = h₄ .0; more = h₄ .1 }
 
 pub format-says : (v : View) → formatNumber v ≡ 0 → PlanOk (v .plan) × (v .short ≡ false)
@@ -201,12 +202,14 @@ cold-only cold e = refl
 cold-only ready e = absurd (true≢false e)
 cold-only (writing u n) e = absurd (true≢false e)
 cold-only (recovering u n) e = absurd (true≢false e)
+cold-only (grouping i n) e = absurd (true≢false e)
 
 pub ready-only : (j : Job) → not (isReady j) ≡ false → j ≡ ready
 ready-only cold e = absurd (true≢false e)
 ready-only ready e = refl
 ready-only (writing u n) e = absurd (true≢false e)
 ready-only (recovering u n) e = absurd (true≢false e)
+ready-only (grouping i n) e = absurd (true≢false e)
 
 -- Ticket 4: 14 comes after 5, so that outside Cold no marker is asked for
 wake-awake : (v : View) → first (deviceRow v) ≡ 0 → not (isCold (v .job)) ≡ true → wakeNumber v ≡ 5
@@ -225,7 +228,7 @@ wake-says v e = cold-only (v .job) (go (not (isCold (v .job))) refl)
 pub record CutPassed (v : View) (n : ℕ) : Type 0 where
   pub plan : PlanOk (v .plan)
   pub long : v .short ≡ false
-  pub job : badJob (v .plan) (v .job) ≡ false
+  pub job : badJob (v .plan) (v .payload) (v .job) ≡ false
   pub size : n ≡ v .plan .page
 
 pub cut-says : (v : View) (n : ℕ) → cutNumber v n ≡ 0 → CutPassed v n
@@ -239,9 +242,15 @@ cut-says v n e =
       size = eqb-true n (v .plan .page) (not-false _ (first-past 17 _ [] (h .more) .0));
     }
 
+-- a step's 0 says that 4 does not apply
+pub step-says : (v : View) → stepNumber v ≡ 0 → badJob (v .plan) (v .payload) (v .job) ≡ false
+unfolding stepNumber
+step-says v e = past v _ e .job
+
 pub record Began (v : View) (u n : ℕ) : Type 0 where
   pub job : v .job ≡ ready
   pub unit : u < v .plan .count
+  pub other : isRecord (v .plan) u ≡ false
   pub size : n ≡ width (v .plan) u
 
 pub begin-says : (v : View) (u n : ℕ) → beginNumber v u n ≡ 0 → Began v u n
@@ -249,37 +258,46 @@ unfolding beginNumber
 begin-says v u n e =
     let h₅ = first-past 4 (not (isReady (v .job))) _ (past v _ e .more) in
     let h₆ = first-past 5 (leb (v .plan .count) u) _ (h₅ .1) in
-    let h₇ = first-past 6 (not (eqb n (width (v .plan) u))) _ (h₆ .1) in
+    let h₂₀ = first-past 19 (isRecord (v .plan) u) _ (h₆ .1) in
+    let h₇ = first-past 6 (not (eqb n (width (v .plan) u))) _ (h₂₀ .1) in
     record {
       job = ready-only (v .job) (h₅ .0);
       unit = leb-false (v .plan .count) u (h₆ .0);
+      other = h₂₀ .0;
       size = eqb-true n (width (v .plan) u) (not-false _ (h₇ .0));
     }
 
 -- ---- when it is 0
-pub job-writing : (p : Plan) (u n : ℕ) → u < p .count → n < writeTotal (width p u) → badJob p (writing u n) ≡ false
+pub job-writing : (p : Plan) (payload : List ℕ) (u n : ℕ) → u < p .count → n < writeTotal (width p u)
+    → badJob p payload (writing u n) ≡ false
 unfolding badJob
-job-writing p u n h l = or-false _ _ (lt-leb (p .count) u h) (lt-leb _ n l)
+job-writing p payload u n h l = or-false _ _ (lt-leb (p .count) u h) (lt-leb _ n l)
 
-pub job-recovering : (p : Plan) (u n : ℕ) → u < p .count → n < cleanupTotal (width p u) → badJob p (recovering u n) ≡ false
+pub job-recovering : (p : Plan) (payload : List ℕ) (u n : ℕ) → u < p .count → n < cleanupTotal (width p u)
+    → badJob p payload (recovering u n) ≡ false
 unfolding badJob
-job-recovering p u n h l = or-false _ _ (lt-leb (p .count) u h) (lt-leb _ n l)
+job-recovering p payload u n h l = or-false _ _ (lt-leb (p .count) u h) (lt-leb _ n l)
+
+pub job-grouping : (p : Plan) (payload : List ℕ) (i n : ℕ) → badWrite p payload i ≡ false
+    → n < writeTotal (width p (writeAt p payload i .unit)) → badJob p payload (grouping i n) ≡ false
+unfolding badJob
+job-grouping p payload i n h l = or-false _ _ h (lt-leb _ n l)
 
 module _ (v : View) (ok : PlanOk (v .plan)) (long : v .short ≡ false) where
-  device-past : (rest : List Refusal) → badJob (v .plan) (v .job) ≡ false → first (deviceRow v ++ rest) ≡ first rest
+  device-past : (rest : List Refusal) → badJob (v .plan) (v .payload) (v .job) ≡ false → first (deviceRow v ++ rest) ≡ first rest
   device-past rest e =
       plan-passed (v .plan) _ (start-fine (v .plan) ok) ∙ first-skip 3 _ _ long ∙ first-skip 4 _ _ e
 
   -- refusals 1 to 4 do not apply
-  pub device-fine : badJob (v .plan) (v .job) ≡ false → first (deviceRow v) ≡ 0
+  pub device-fine : badJob (v .plan) (v .payload) (v .job) ≡ false → first (deviceRow v) ≡ 0
   device-fine e = device-past [] e ∙ first-none
 
-  pub cut-any : (n : ℕ) → badJob (v .plan) (v .job) ≡ false → n ≡ v .plan .page → cutNumber v n ≡ 0
+  pub cut-any : (n : ℕ) → badJob (v .plan) (v .payload) (v .job) ≡ false → n ≡ v .plan .page → cutNumber v n ≡ 0
   unfolding cutNumber
   cut-any n e h = device-past _ e ∙ first-skip 18 _ [] (ap not (eq-eqb n (v .plan .page) h)) ∙ first-none
 
   module _ (e : v .job ≡ cold) where
-    cold-fine : badJob (v .plan) (v .job) ≡ false
+    cold-fine : badJob (v .plan) (v .payload) (v .job) ≡ false
     unfolding badJob
     cold-fine = rw e
 
@@ -313,7 +331,13 @@ module _ (v : View) (ok : PlanOk (v .plan)) (long : v .short ≡ false) where
       → stepNumber v ≡ 0
   unfolding stepNumber
   step-recovering u n e h l =
-      device-past _ (rw e (job-recovering (v .plan) u n h l)) ∙ first-skip 5 _ [] (rw e) ∙ first-none
+      device-past _ (rw e (job-recovering (v .plan) (v .payload) u n h l)) ∙ first-skip 5 _ [] (rw e) ∙ first-none
+
+  pub step-grouping : (i n : ℕ) → v .job ≡ grouping i n → badWrite (v .plan) (v .payload) i ≡ false
+      → n < writeTotal (width (v .plan) (writeAt (v .plan) (v .payload) i .unit)) → stepNumber v ≡ 0
+  unfolding stepNumber
+  step-grouping i n e h l =
+      device-past _ (rw e (job-grouping (v .plan) (v .payload) i n h l)) ∙ first-skip 5 _ [] (rw e) ∙ first-none
 
 foreign-alike : (m m′ : ℕ → ℕ) (k : ℕ) → ((u : ℕ) → u < k → m u ≡ m′ u) → anyForeign m k ≡ anyForeign m′ k
 unfolding anyForeign
@@ -341,24 +365,25 @@ pub record Alike (v v′ : View) : Type 0 where
   pub plan : v .plan ≡ v′ .plan
   pub short : v .short ≡ v′ .short
   pub job : v .job ≡ v′ .job
+  pub bad : badJob (v .plan) (v .payload) (v .job) ≡ badJob (v′ .plan) (v′ .payload) (v′ .job)
   pub marker : (u : ℕ) → u < v′ .plan .count → v .marker u ≡ v′ .marker u
 
 module _ {v v′ : View} (a : Alike v v′) where
   pub step-alike : stepNumber v ≡ stepNumber v′
   unfolding stepNumber
-  step-alike = rw (a .plan, a .short, a .job)
+  step-alike = rw (a .bad, a .plan, a .short, a .job)
 
   pub cut-alike : (n : ℕ) → cutNumber v n ≡ cutNumber v′ n
   unfolding cutNumber
-  cut-alike n = rw (a .plan, a .short, a .job)
+  cut-alike n = rw (a .bad, a .plan, a .short)
 
   pub wake-alike : wakeNumber v ≡ wakeNumber v′
   unfolding wakeNumber
-  wake-alike = rw (a .plan, a .short, a .job, foreign-alike (v .marker) (v′ .marker) (v′ .plan .count) (a .marker))
+  wake-alike = rw (a .bad, a .plan, a .short, a .job, foreign-alike (v .marker) (v′ .marker) (v′ .plan .count) (a .marker))
 
   pub inspect-alike : inspectNumber v ≡ inspectNumber v′
   unfolding inspectNumber
-  inspect-alike = rw (a .plan, a .short, a .job)
+  inspect-alike = rw (a .bad, a .plan, a .short)
 
   -- a unit's marker is looked at after 6
   marker-alike : (u : ℕ) (rest : Plan → ℕ → List Refusal)
@@ -366,17 +391,17 @@ module _ {v v′ : View} (a : Alike v v′) where
       ≡ first (deviceRow v′ ++ (5 when not (isReady (v′ .job)) ∷ 6 when leb (v′ .plan .count) u ∷ rest (v′ .plan) (v′ .marker u)))
   marker-alike u rest =
       elim (order u (v′ .plan .count)) [
-        | below l ↦ rw (a .plan, a .short, a .job, a .marker u l)
+        | below l ↦ rw (a .bad, a .plan, a .short, a .job, a .marker u l)
         | above l ↦
             let six : leb (v′ .plan .count) u ≡ true = le-leb (v′ .plan .count) u l in
-            rw (a .plan, a .short, a .job)
+            rw (a .bad, a .plan, a .short, a .job)
             (first-behind (deviceRow v′ ++ (5 when not (isReady (v′ .job)) ∷ [])) _ _
             (first-stop 6 _ _ six ∙ sym (first-stop 6 _ _ six)))
       ]
 
   pub begin-alike : (u n : ℕ) → beginNumber v u n ≡ beginNumber v′ u n
   unfolding beginNumber
-  begin-alike u n = marker-alike u (λ p m. 7 when not (eqb n (width p u)) ∷ 8 when not (eqb m OK) ∷ [])
+  begin-alike u n = marker-alike u (λ p m. 20 when isRecord p u ∷ 7 when not (eqb n (width p u)) ∷ 8 when not (eqb m OK) ∷ [])
 
   pub read-alike : (u : ℕ) → readNumber v u ≡ readNumber v′ u
   unfolding readNumber

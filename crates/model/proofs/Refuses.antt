@@ -1,26 +1,30 @@
 -- Each call answers the number that is tested first of those whose condition holds: specs/Refuses.antt.
-use Prim.Native.Nat.{ℕ, zero, suc, _+_, _≤_, _<_}
+use Prim.Native.Nat.{ℕ, zero, suc, _+_, _-_, _≤_, _<_}
 use mathlib.Core.Path.{_≡_, refl, sym, ap, _∙_, subst}
 use mathlib.Core.List.{List, [], _∷_, _++_}
-use mathlib.Core.Bool.{Bool, true, false, cond, not, _||_, true≢false, false≢true}
+use mathlib.Core.Bool.{Bool, true, false, cond, not, _||_, _&&_, true≢false, false≢true}
 use native.Mathlib.Omega.{arith}
 use lib.Dec.{eqb, ltb, leb}
 use lib.ListN.{length}
 use borrow.Author.Tests.{ltb-true, leb-true, eqb-true, eqb-false, not-true, lt-ltb, le-leb, eq-eqb, ne-eqb}
 use Rattle.model.specs.declared.Plan.{Plan}
 use Rattle.model.specs.declared.Phase.{Phase}
-use Rattle.model.specs.declared.Phase.the-variants.{Cold, Ready, Writing, Recovering}
+use Rattle.model.specs.declared.Phase.the-variants.{Cold, Ready, Writing, Recovering, Grouping}
 use Rattle.model.specs.Marker.{OK, FOREIGN, isForeign}
 use Rattle.model.specs.Layout.{marker, width, total, get}
-use Rattle.model.specs.Refusals.{isCold, isReady, writeTotal, cleanupTotal, badCount, badWidths, badPage, badJob, Refusal, _when_, first, planRow, deviceRow, anyForeign, startNumber, formatNumber, beginNumber, stepNumber, wakeNumber, cutNumber, readNumber, inspectNumber, rideNumber, totalNumber}
+use Rattle.model.specs.Groups.{Write, last, isRecord, split, memberCount, members, unsplit, among, twice, overlaps, narrow, given, writes, writeAt}
+use Rattle.model.specs.Records.{Has, Overlaps}
+use Rattle.model.specs.Records as records
+use Rattle.model.specs.Refusals.{badWrite, dirty, groupNumber, isCold, isReady, writeTotal, cleanupTotal, badCount, badWidths, badPage, badJob, Refusal, _when_, first, planRow, deviceRow, anyForeign, startNumber, formatNumber, beginNumber, stepNumber, wakeNumber, cutNumber, readNumber, inspectNumber, rideNumber, totalNumber}
 use Rattle.model.specs.Turns.{amount}
 use Rattle.model.specs.Calls.{Device, Outcome, view, heldIn, jobOf, unlessRefused, startAnswer}
 use Rattle.model.specs.Calls as calls
-use Rattle.model.specs.Refuses.{First, refusalOrder, Lowest, BadPlan, noUnit, manyUnits, noWidth, wide, otherPage, BadDevice, plan, short, writingNoUnit, writingMade, cleaningNoUnit, cleaningMade, BadCut, otherSize, BadFormat, BadWake, foreign, BadStep, BadRead, BadBegin, size, BadRide, rideOrder, BadTotal, RefusedExactly}
+use Rattle.model.specs.Refuses.{First, refusalOrder, Lowest, BadPlan, noUnit, manyUnits, noWidth, wide, otherPage, BadDevice, plan, short, writingNoUnit, writingMade, cleaningNoUnit, cleaningMade, GoodPlan, groupingAlone, groupingNone, groupingPast, groupingMade, BadGroup, BadCut, otherSize, BadFormat, BadWake, foreign, BadStep, BadRead, BadBegin, size, BadRide, rideOrder, BadTotal, RefusedExactly}
 use Rattle.model.specs.Refuses as bad
 use Rattle.model.proofs.Compare.{below, above, order, equal, differ, same}
 use Rattle.model.proofs.MarkerLaws.{not-foreign}
-use Rattle.model.proofs.RefusalLaws.{false-or}
+use Rattle.model.proofs.RefusalLaws.{PlanOk, and-true, false-or, start-says}
+use Rattle.model.proofs.Records.{group-told, told-group, overlaps-told, told-overlaps, narrow-told, told-narrow, given-told, told-given, write-told, told-write, writes-count}
 use Rattle.model.proofs.TurnLaws.{held-amount}
 
 -- ---- A refusal of the row has the number k and holds: it is the first, or one of the rest.
@@ -80,10 +84,10 @@ module _ (order : ℕ → ℕ) where
       go false e more (there s) = more s
 
   earliest : (Applies : ℕ → Type 0) (row : List Refusal) → Ordered 1 row
-      → ((k : ℕ) → Says k row → Applies k) → ((k : ℕ) → Applies k → Says k row) → First order Applies (first row)
+      → (¬ (first row ≡ 0) → Applies (first row)) → ((k : ℕ) → Applies k → Says k row) → First order Applies (first row)
   earliest Applies row rise to from =
       record {
-        given = λ h. to (first row) (answers row h);
+        given = to;
         first = λ k a. least 1 k row (omega arith) rise (from k a);
       }
 
@@ -93,7 +97,7 @@ Rising = Ordered refusalOrder
 
 lowest : (Applies : ℕ → Type 0) (row : List Refusal) → Rising 1 row
     → ((k : ℕ) → Says k row → Applies k) → ((k : ℕ) → Applies k → Says k row) → Lowest Applies (first row)
-lowest = earliest refusalOrder
+lowest Applies row rise to from = earliest refusalOrder Applies row rise (λ h. to (first row) (answers row h)) from
 
 -- what applies for one number applies for an equal one
 number-is : (Applies : ℕ → Type 0) (n k : ℕ) → n ≡ k → Applies n → Applies k
@@ -113,28 +117,28 @@ or-right false y e = e
 
 -- ---- 1, 2 and 17
 module _ (p : Plan) where
-  width-bad : (n : ℕ) → n ≤ p .count → badWidths p n ≡ true → BadPlan p 2
+  width-bad : (n : ℕ) → n ≤ p .count → badWidths (p .widths) n ≡ true → BadPlan p 2
   unfolding badWidths
   width-bad zero l e = absurd (false≢true e)
   width-bad (suc n) l e =
-      either (BadPlan p 2) (badWidths p n) (eqb (width p n) 0 || ltb 256 (width p n))
+      either (BadPlan p 2) (badWidths (p .widths) n) (eqb (width p n) 0 || ltb 256 (width p n))
       (width-bad n (omega arith))
       (either (BadPlan p 2) (eqb (width p n) 0) (ltb 256 (width p n))
       (λ h. noWidth n (omega arith) (eqb-true (width p n) 0 h))
       (λ h. wide n (omega arith) (ltb-true 256 (width p n) h)))
       e
 
-  bad-width : (u n : ℕ) → u < n → eqb (width p u) 0 || ltb 256 (width p u) ≡ true → badWidths p n ≡ true
+  bad-width : (u n : ℕ) → u < n → eqb (width p u) 0 || ltb 256 (width p u) ≡ true → badWidths (p .widths) n ≡ true
   unfolding badWidths
   bad-width u zero l h = absurd (omega arith)
   bad-width u (suc n) l h =
       elim (same u n) [
-        | equal e ↦ or-right (badWidths p n) _ (rw e at h)
-        | differ q ↦ or-left (badWidths p n) _ (bad-width u n (omega arith) h)
+        | equal e ↦ or-right (badWidths (p .widths) n) _ (rw e at h)
+        | differ q ↦ or-left (badWidths (p .widths) n) _ (bad-width u n (omega arith) h)
       ]
 
   -- the four sizes, one by one
-  page-bad : badPage p ≡ true → BadPlan p 17
+  page-bad : badPage (p .page) ≡ true → BadPlan p 17
   unfolding badPage
   page-bad h =
       let none : eqb (p .page) 1 || (eqb (p .page) 4 || (eqb (p .page) 8 || eqb (p .page) 16)) ≡ false = not-true _ h in
@@ -144,7 +148,7 @@ module _ (p : Plan) where
       otherPage (eqb-false (p .page) 1 (h₁ .0)) (eqb-false (p .page) 4 (h₄ .0)) (eqb-false (p .page) 8 (h₈ .0))
       (eqb-false (p .page) 16 (h₈ .1))
 
-  bad-page : ¬ (p .page ≡ 1) → ¬ (p .page ≡ 4) → ¬ (p .page ≡ 8) → ¬ (p .page ≡ 16) → badPage p ≡ true
+  bad-page : ¬ (p .page ≡ 1) → ¬ (p .page ≡ 4) → ¬ (p .page ≡ 8) → ¬ (p .page ≡ 16) → badPage (p .page) ≡ true
   unfolding badPage
   bad-page h₁ h₄ h₈ h₁₆ = rw (ne-eqb (p .page) 1 h₁, ne-eqb (p .page) 4 h₄, ne-eqb (p .page) 8 h₈, ne-eqb (p .page) 16 h₁₆)
 
@@ -168,18 +172,52 @@ module _ (p : Plan) where
   plan-from k (wide u l h) = there (here refl (bad-width u (p .count) l (or-right (eqb (width p u) 0) _ (lt-ltb 256 (width p u) h))))
   plan-from k (otherPage h₁ h₄ h₈ h₁₆) = there (there (here refl (bad-page h₁ h₄ h₈ h₁₆)))
 
+  -- a plan that none of them refuses
+  good-is : GoodPlan p → PlanOk p
+  unfolding startNumber
+  good-is good = start-says p (go (first (planRow p)) refl)
+    where
+      go : (n : ℕ) → first (planRow p) ≡ n → first (planRow p) ≡ 0
+      go zero e = e
+      go (suc n) e = absurd (good _ (plan-to (first (planRow p)) (answers (planRow p) (λ z. absurd (omega (arith, z, e))))))
+
+  is-good : first (planRow p) ≡ 0 → GoodPlan p
+  is-good e n b =
+      let h = least refusalOrder 1 n (planRow p) (omega arith) (omega arith, (omega arith, (omega arith, tt))) (plan-from n b) in
+      absurd (omega (arith, h .0, ap refusalOrder e))
+
+early : (xs ys : List Refusal) (n : ℕ) → first xs ≡ suc n → first (xs ++ ys) ≡ suc n
+unfolding first
+early [] ys n e = absurd (omega arith)
+early (r ∷ xs) ys n e = go (r .holds) e (early xs ys n)
+  where
+    go : (t : Bool) → cond t (r .number) (first xs) ≡ suc n → (first xs ≡ suc n → first (xs ++ ys) ≡ suc n)
+        → cond t (r .number) (first (xs ++ ys)) ≡ suc n
+    go true e rest = e
+    go false e rest = rest e
+
+is-false : (t : Bool) → ¬ (t ≡ true) → t ≡ false
+is-false true h = absurd (h refl)
+is-false false h = refl
+
+is-true : (t : Bool) → ¬ (t ≡ false) → t ≡ true
+is-true true h = refl
+is-true false h = absurd (h refl)
+
 -- ---- the phase, and a foreign marker
 cold-is : (phase : Phase) → isCold (jobOf phase) ≡ true → phase ≡ Cold
 cold-is Cold h = refl
 cold-is Ready h = absurd (false≢true h)
 cold-is (Writing u made) h = absurd (false≢true h)
 cold-is (Recovering u made way) h = absurd (false≢true h)
+cold-is (Grouping i made) h = absurd (false≢true h)
 
 ready-is : (phase : Phase) → isReady (jobOf phase) ≡ true → phase ≡ Ready
 ready-is Cold h = absurd (false≢true h)
 ready-is Ready h = refl
 ready-is (Writing u made) h = absurd (false≢true h)
 ready-is (Recovering u made way) h = absurd (false≢true h)
+ready-is (Grouping i made) h = absurd (false≢true h)
 
 not-cold-to : (phase : Phase) → not (isCold (jobOf phase)) ≡ true → ¬ (phase ≡ Cold)
 not-cold-to phase h e = true≢false (sym h ∙ ap (λ (q : Phase). not (isCold (jobOf q))) e)
@@ -189,6 +227,7 @@ not-cold-from Cold h = absurd (h refl)
 not-cold-from Ready h = refl
 not-cold-from (Writing u made) h = refl
 not-cold-from (Recovering u made way) h = refl
+not-cold-from (Grouping i made) h = refl
 
 not-ready-to : (phase : Phase) → not (isReady (jobOf phase)) ≡ true → ¬ (phase ≡ Ready)
 not-ready-to phase h e = true≢false (sym h ∙ ap (λ (q : Phase). not (isReady (jobOf q))) e)
@@ -198,6 +237,7 @@ not-ready-from Cold h = refl
 not-ready-from Ready h = absurd (h refl)
 not-ready-from (Writing u made) h = refl
 not-ready-from (Recovering u made way) h = refl
+not-ready-from (Grouping i made) h = refl
 
 foreign-is : (m : ℕ) → isForeign m ≡ true → 8 ≤ m
 foreign-is m h =
@@ -217,16 +257,40 @@ module _ (d : Device) (image : List ℕ) where
   abbrev Four : Type 0
   Four = BadDevice d image 4
 
-  job-to : (phase : Phase) → d .phase ≡ phase → badJob p (jobOf phase) ≡ true → Four
+  -- a group phase
+  module _ (i made : ℕ) (now : d .phase ≡ Grouping i made) where
+    abbrev some : Bool
+    some = leb (writeTotal (width p (writeAt p (d .payload) i .unit))) made
+
+    group-to : PlanOk p → GoodPlan p → badWrite p (d .payload) i || some ≡ true → (t : Bool) → given p (d .payload) ≡ t → Four
+    unfolding badWrite
+    group-to ok good h false q =
+        groupingNone i made good now (λ g ms gives. true≢false (sym (told-given p ok gives .1) ∙ q))
+    group-to ok good h true q =
+        let told = given-told p ok (d .payload) q in
+        let many = writes-count p ok (told .gives) in
+        elim (order i (length (writes p (d .payload)))) [
+          | below l ↦
+              either Four (badWrite p (d .payload) i) some
+              (either Four (not (p .grouped)) _ (λ x. groupingAlone i made now (not-true _ x))
+              (either Four (not (given p (d .payload))) _ (λ x. absurd (true≢false (sym q ∙ not-true _ x)))
+              (λ x. absurd (omega (arith, l, leb-true (length (writes p (d .payload))) i x)))))
+              (λ x. groupingMade i made _ (told .g) _ (told .ms) good now (told .gives) (write-told p ok (told .gives) i l) (leb-true _ made x))
+              h
+          | above l ↦ groupingPast i made (told .g) (told .ms) good now (told .gives) (omega (arith, many))
+        ]
+
+  job-to : PlanOk p → GoodPlan p → (phase : Phase) → d .phase ≡ phase → badJob p (d .payload) (jobOf phase) ≡ true → Four
   unfolding badJob
-  job-to Cold now h = absurd (false≢true h)
-  job-to Ready now h = absurd (false≢true h)
-  job-to (Writing u made) now h =
+  job-to ok good Cold now h = absurd (false≢true h)
+  job-to ok good Ready now h = absurd (false≢true h)
+  job-to ok good (Grouping i made) now h = group-to i made now ok good h (given p (d .payload)) refl
+  job-to ok good (Writing u made) now h =
       either Four (leb (p .count) u) (leb (writeTotal (width p u)) made)
       (λ q. writingNoUnit u made now (leb-true (p .count) u q))
       (λ q. writingMade u made now (leb-true (writeTotal (width p u)) made q))
       h
-  job-to (Recovering u made way) now h =
+  job-to ok good (Recovering u made way) now h =
       either Four (leb (p .count) u) (leb (cleanupTotal (width p u)) made)
       (λ q. cleaningNoUnit u made way now (leb-true (p .count) u q))
       (λ q. cleaningMade u made way now (leb-true (cleanupTotal (width p u)) made q))
@@ -234,21 +298,21 @@ module _ (d : Device) (image : List ℕ) where
 
   -- the row of every device call behind the plan's
   abbrev lateRow : List Refusal
-  lateRow = 3 when ltb (length image) (total p) ∷ 4 when badJob p (jobOf (d .phase)) ∷ []
+  lateRow = 3 when ltb (length image) (total p) ∷ 4 when badJob p (d .payload) (jobOf (d .phase)) ∷ []
 
-  late-to : (k : ℕ) → Says k lateRow → BadDevice d image k
-  late-to k (here e h) = number-is (BadDevice d image) 3 k e (short (ltb-true (length image) (total p) h))
-  late-to k (there (here e h)) = number-is (BadDevice d image) 4 k e (job-to (d .phase) refl h)
-  late-to k (there (there q)) = absurd q
+  late-to : PlanOk p → GoodPlan p → (k : ℕ) → Says k lateRow → BadDevice d image k
+  late-to ok good k (here e h) = number-is (BadDevice d image) 3 k e (short (ltb-true (length image) (total p) h))
+  late-to ok good k (there (here e h)) = number-is (BadDevice d image) 4 k e (job-to ok good (d .phase) refl h)
+  late-to ok good k (there (there q)) = absurd q
 
-  device-to : (k : ℕ) → Says k (deviceRow (view d image)) → BadDevice d image k
-  device-to k s = says-split (BadDevice d image k) k (planRow p) lateRow (λ q. plan (plan-to p k q)) (late-to k) s
+  device-to : PlanOk p → GoodPlan p → (k : ℕ) → Says k (deviceRow (view d image)) → BadDevice d image k
+  device-to ok good k s = says-split (BadDevice d image k) k (planRow p) lateRow (λ q. plan (plan-to p k q)) (late-to ok good k) s
 
-  four : badJob p (jobOf (d .phase)) ≡ true → Says 4 (deviceRow (view d image))
+  four : badJob p (d .payload) (jobOf (d .phase)) ≡ true → Says 4 (deviceRow (view d image))
   four h = says-right 4 (planRow p) lateRow (there (here refl h))
 
   device-from : (k : ℕ) → BadDevice d image k → Says k (deviceRow (view d image))
-  unfolding badJob
+  unfolding badJob badWrite
   device-from k (plan q) = says-left k (planRow p) lateRow (plan-from p k q)
   device-from k (short h) = says-right 3 (planRow p) lateRow (here refl (lt-ltb (length image) (total p) h))
   device-from k (writingNoUnit u made now h) = four (rw now (or-left _ _ (le-leb (p .count) u h)))
@@ -257,20 +321,51 @@ module _ (d : Device) (image : List ℕ) where
   device-from k (cleaningNoUnit u made way now h) = four (rw now (or-left _ _ (le-leb (p .count) u h)))
   device-from k (cleaningMade u made way now h) =
       four (rw now (or-right (leb (p .count) u) _ (le-leb (cleanupTotal (width p u)) made h)))
+  device-from k (groupingAlone i made now e) = four (rw now (or-left _ _ (or-left _ _ (ap not e))))
+  device-from k (groupingNone i made good now none) =
+      let no : given p (d .payload) ≡ false = is-false _ (λ e. let t = given-told p (good-is p good) (d .payload) e in none (t .g) (t .ms) (t .gives)) in
+      four (rw now (or-left _ _ (or-right (not (p .grouped)) _ (or-left _ _ (ap not no)))))
+  device-from k (groupingPast i made g ms good now gives l) =
+      let many = writes-count p (good-is p good) gives in
+      four (rw now (or-left _ _ (or-right (not (p .grouped)) _ (or-right (not (given p (d .payload))) _
+      (le-leb (length (writes p (d .payload))) i (omega (arith, many)))))))
+  device-from k (groupingMade i made u g bytes ms good now gives of l) =
+      let t = told-write p (good-is p good) gives of in
+      four (rw now (or-right (badWrite p (d .payload) i) _
+      (le-leb (writeTotal (width p (writeAt p (d .payload) i .unit))) made (omega (arith, ap (width p) (t .0))))))
 
   rising : (row : List Refusal) → Rising 40 row → Rising 1 (deviceRow (view d image) ++ row)
   rising row rise = (omega arith, (omega arith, (omega arith, (omega arith, (omega arith, rise)))))
 
+  -- what a row behind the plan's says is asked only where the plan is good
+  given-by : (Bad : ℕ → Type 0) (row : List Refusal) → ((k : ℕ) → BadDevice d image k → Bad k) → ((k : ℕ) → Says k row → Bad k)
+      → ¬ (first (deviceRow (view d image) ++ row) ≡ 0) → Bad (first (deviceRow (view d image) ++ row))
+  unfolding startNumber
+  given-by Bad row up to h = go (first (planRow p)) refl
+    where
+      whole : List Refusal
+      whole = deviceRow (view d image) ++ row
+
+      go : (n : ℕ) → first (planRow p) ≡ n → Bad (first (deviceRow (view d image) ++ row))
+      go zero e =
+          says-split (Bad (first (deviceRow (view d image) ++ row))) _ (deviceRow (view d image)) row
+          (λ q. up _ (device-to (start-says p e) (is-good p e) _ q)) (to _) (answers (deviceRow (view d image) ++ row) h)
+      go (suc n) e =
+          let here-is : first (deviceRow (view d image) ++ row) ≡ first (planRow p) = early (planRow p) (lateRow ++ row) n e ∙ sym e in
+          subst Bad (sym here-is)
+          (up _ (plan (plan-to p (first (planRow p)) (answers (planRow p) (λ z. absurd (omega (arith, z, e)))))))
+
   device-lowest : Lowest (BadDevice d image) (first (deviceRow (view d image)))
-  device-lowest = lowest (BadDevice d image) (deviceRow (view d image)) (rising [] tt) device-to device-from
+  device-lowest =
+      earliest refusalOrder (BadDevice d image) (deviceRow (view d image)) (rising [] tt)
+      (given-by (BadDevice d image) [] (λ k b. b) (λ k s. absurd s)) device-from
 
   -- ---- a call's row is the device's, and what is behind it
   behind : (Bad : ℕ → Type 0) (row : List Refusal) → Rising 40 row → ((k : ℕ) → BadDevice d image k → Bad k)
       → ((k : ℕ) → Says k row → Bad k) → ((k : ℕ) → Bad k → Says k (deviceRow (view d image) ++ row))
       → Lowest Bad (first (deviceRow (view d image) ++ row))
   behind Bad row rise up to from =
-      lowest Bad (deviceRow (view d image) ++ row) (rising row rise)
-      (λ k s. says-split (Bad k) k (deviceRow (view d image)) row (λ q. up k (device-to k q)) (to k) s) from
+      earliest refusalOrder Bad (deviceRow (view d image) ++ row) (rising row rise) (given-by Bad row up to) from
 
   front : (k : ℕ) (row : List Refusal) → BadDevice d image k → Says k (deviceRow (view d image) ++ row)
   front k row b = says-left k (deviceRow (view d image)) row (device-from k b)
@@ -370,6 +465,21 @@ module _ (d : Device) (image : List ℕ) where
       from k (bad.BadWake.phase h) = back 5 row (here refl (not-cold-from (d .phase) h))
       from k (bad.BadWake.foreign u l h) = back 14 row (there (here refl (foreign-from u (p .count) l h)))
 
+  -- the group record
+  record-to : (u : ℕ) → isRecord p u ≡ true → (p .grouped ≡ true) × (u ≡ p .count - 1)
+  record-to u h =
+      let t = and-true (p .grouped) _ h in
+      (t .0, eqb-true u (last p) (t .1))
+
+  record-from : (u : ℕ) → p .grouped ≡ true → u ≡ p .count - 1 → isRecord p u ≡ true
+  record-from u e h = rw e (eq-eqb u (last p) h)
+
+  -- a member whose marker isn't OK
+  record Dirty (xs : List Write) : Type 0 where
+    pub unit : ℕ
+    pub has : Has unit xs
+    pub bad : ¬ (get p image unit marker ≡ 1)
+
   -- ---- read and begin
   module _ (u : ℕ) where
     abbrev off : Bool
@@ -409,24 +519,26 @@ module _ (d : Device) (image : List ℕ) where
 
       begin-lowest : Lowest Bad (beginNumber (view d image) u (length payload))
       unfolding beginNumber get
-      begin-lowest = behind Bad row (omega arith, (omega arith, (omega arith, (omega arith, tt)))) (λ k b. bad.BadBegin.asRead (bad.BadRead.device b)) to from
+      begin-lowest = behind Bad row (omega arith, (omega arith, (omega arith, (omega arith, (omega arith, tt))))) (λ k b. bad.BadBegin.asRead (bad.BadRead.device b)) to from
         where
           row : List Refusal
-          row = 5 when off ∷ 6 when leb (p .count) u ∷ 7 when not (eqb (length payload) (width p u)) ∷ 8 when badMark ∷ []
+          row = 5 when off ∷ 6 when leb (p .count) u ∷ 20 when isRecord p u ∷ 7 when not (eqb (length payload) (width p u)) ∷ 8 when badMark ∷ []
 
           to : (k : ℕ) → Says k row → Bad k
           to k (here e h) = number-is Bad 5 k e (bad.BadBegin.asRead (bad.BadRead.phase (not-ready-to (d .phase) h)))
           to k (there (here e h)) = number-is Bad 6 k e (bad.BadBegin.asRead (bad.BadRead.unit (leb-true (p .count) u h)))
-          to k (there (there (here e h))) = number-is Bad 7 k e (size (eqb-false (length payload) (width p u) (not-true _ h)))
-          to k (there (there (there (here e h)))) = number-is Bad 8 k e (bad.BadBegin.asRead (bad.BadRead.mark (mark-to h)))
-          to k (there (there (there (there q)))) = absurd q
+          to k (there (there (here e h))) = number-is Bad 20 k e (let t = record-to u h in bad.BadBegin.theRecord (t .0) (t .1))
+          to k (there (there (there (here e h)))) = number-is Bad 7 k e (size (eqb-false (length payload) (width p u) (not-true _ h)))
+          to k (there (there (there (there (here e h))))) = number-is Bad 8 k e (bad.BadBegin.asRead (bad.BadRead.mark (mark-to h)))
+          to k (there (there (there (there (there q))))) = absurd q
 
           from : (k : ℕ) → Bad k → Says k (deviceRow (view d image) ++ row)
           from k (bad.BadBegin.asRead (bad.BadRead.device b)) = front k row b
           from k (bad.BadBegin.asRead (bad.BadRead.phase h)) = back 5 row (here refl (not-ready-from (d .phase) h))
           from k (bad.BadBegin.asRead (bad.BadRead.unit h)) = back 6 row (there (here refl (le-leb (p .count) u h)))
-          from k (bad.BadBegin.asRead (bad.BadRead.mark h)) = back 8 row (there (there (there (here refl (mark-from h)))))
-          from k (size h) = back 7 row (there (there (here refl (rw (ne-eqb (length payload) (width p u) h)))))
+          from k (bad.BadBegin.asRead (bad.BadRead.mark h)) = back 8 row (there (there (there (there (here refl (mark-from h))))))
+          from k (size h) = back 7 row (there (there (there (here refl (rw (ne-eqb (length payload) (width p u) h))))))
+          from k (bad.BadBegin.theRecord e h) = back 20 row (there (there (here refl (record-from u e h))))
 
     total-lowest : Lowest (BadTotal d image u) (totalNumber (view d image) u)
     unfolding totalNumber get
@@ -464,30 +576,117 @@ module _ (d : Device) (image : List ℕ) where
     unfolding rideNumber get
     ride-first =
         earliest rideOrder Ride (deviceRow (view d image) ++ row)
-        (omega arith, (omega arith, (omega arith, (omega arith, (omega arith, (omega arith, (omega arith, (omega arith, (omega arith, tt)))))))))
-        (λ k s. says-split (Ride k) k (deviceRow (view d image)) row (λ q. bad.BadRide.device (device-to k q)) (to k) s) from
+        (omega arith, (omega arith, (omega arith, (omega arith, (omega arith, (omega arith, (omega arith, (omega arith, (omega arith, (omega arith, tt))))))))))
+        (given-by Ride row (λ k b. bad.BadRide.device b) to) from
       where
         row : List Refusal
-        row = 5 when off 0 ∷ 16 when not (eqb (width p 0) 8) ∷ 8 when badMark 0 ∷ 15 when large ∷ []
+        row = 5 when off 0 ∷ 16 when not (eqb (width p 0) 8) ∷ 20 when isRecord p 0 ∷ 8 when badMark 0 ∷ 15 when large ∷ []
 
         to : (k : ℕ) → Says k row → Ride k
         to k (here e h) = number-is Ride 5 k e (bad.BadRide.phase (not-ready-to (d .phase) h))
         to k (there (here e h)) = number-is Ride 16 k e (bad.BadRide.otherWidth (eqb-false (width p 0) 8 (not-true _ h)))
-        to k (there (there (here e h))) = number-is Ride 8 k e (bad.BadRide.mark (mark-to 0 h))
-        to k (there (there (there (here e h)))) =
+        to k (there (there (here e h))) = number-is Ride 20 k e (let t = record-to 0 h in bad.BadRide.theRecord (t .0) (t .1))
+        to k (there (there (there (here e h)))) = number-is Ride 8 k e (bad.BadRide.mark (mark-to 0 h))
+        to k (there (there (there (there (here e h))))) =
             number-is Ride 15 k e
             (bad.BadRide.large (omega (arith, ltb-true 18446744073709551615 (amount (heldIn d image 0) + turns) h, held-amount p image 0)))
-        to k (there (there (there (there q)))) = absurd q
+        to k (there (there (there (there (there q))))) = absurd q
 
         from : (k : ℕ) → Ride k → Says k (deviceRow (view d image) ++ row)
         from k (bad.BadRide.device b) = front k row b
         from k (bad.BadRide.phase h) = back 5 row (here refl (not-ready-from (d .phase) h))
         from k (bad.BadRide.otherWidth h) = back 16 row (there (here refl (rw (ne-eqb (width p 0) 8 h))))
-        from k (bad.BadRide.mark h) = back 8 row (there (there (here refl (mark-from 0 h))))
+        from k (bad.BadRide.theRecord e h) = back 20 row (there (there (here refl (record-from 0 e h))))
+        from k (bad.BadRide.mark h) = back 8 row (there (there (there (here refl (mark-from 0 h)))))
         from k (bad.BadRide.large h) =
             back 15 row
-            (there (there (there (here refl
-            (lt-ltb 18446744073709551615 (amount (heldIn d image 0) + turns) (omega (arith, h, held-amount p image 0)))))))
+            (there (there (there (there (here refl
+            (lt-ltb 18446744073709551615 (amount (heldIn d image 0) + turns) (omega (arith, h, held-amount p image 0))))))))
+
+  -- ---- group
+  module _ (g : List ℕ) where
+    abbrev Group : ℕ → Type 0
+    Group = BadGroup d image g
+
+    abbrev ms : List Write
+    ms = members p g
+
+    dirty-to : (xs : List Write) → dirty mark xs ≡ true → Dirty xs
+    unfolding dirty
+    dirty-to [] h = absurd (false≢true h)
+    dirty-to (x ∷ xs) h = go (eqb (mark (x .unit)) OK) refl (dirty-to xs)
+      where
+        go : (t : Bool) → eqb (mark (x .unit)) OK ≡ t → (dirty mark xs ≡ true → Dirty xs) → Dirty (x ∷ xs)
+        go false q rest = record { unit = x .unit; has = records.Has.here (x .bytes); bad = eqb-false (mark (x .unit)) OK q }
+        go true q rest =
+            let t = rest (either (dirty mark xs ≡ true) (not (eqb (mark (x .unit)) OK)) _ (λ z. absurd (true≢false (sym z ∙ ap not q))) (λ z. z) h) in
+            record { unit = t .unit; has = records.Has.there x (t .has); bad = t .bad }
+
+    dirty-from : {u : ℕ} {xs : List Write} → Has u xs → ¬ (mark u ≡ 1) → dirty mark xs ≡ true
+    unfolding dirty
+    dirty-from {u} (records.Has.here {ms = rest} payload) h = or-left (not (eqb (mark u) OK)) (dirty mark rest) (ap not (ne-eqb (mark u) OK h))
+    dirty-from (records.Has.there {ms = rest} x r) h = or-right (not (eqb (mark (x .unit)) OK)) (dirty mark rest) (dirty-from r h)
+
+    -- bytes that don't split have no members
+    split-if : (t : Bool) → unsplit p g ≡ t → (unsplit p g ≡ true → ⊥) → unsplit p g ≡ false
+    split-if true q never = absurd (never q)
+    split-if false q never = q
+
+    no-members : unsplit p g ≡ true → members p g ≡ []
+    unfolding unsplit members split
+    no-members h = ap (λ (n : ℕ). split p n g) (eqb-true (memberCount p g) 0 h)
+
+    twice-splits : overlaps p g ≡ true → unsplit p g ≡ false
+    unfolding overlaps among twice
+    twice-splits h = split-if (unsplit p g) refl (λ q. true≢false (sym h ∙ ap (λ (xs : List Write). twice xs || (p .grouped && among (last p) xs)) (no-members q) ∙ and-no (p .grouped)))
+      where
+        and-no : (t : Bool) → t && false ≡ false
+        and-no true = refl
+        and-no false = refl
+
+    dirty-splits : dirty mark (members p g) ≡ true → unsplit p g ≡ false
+    unfolding dirty
+    dirty-splits h = split-if (unsplit p g) refl (λ q. true≢false (sym h ∙ ap (dirty mark) (no-members q)))
+
+    group-lowest : Lowest Group (groupNumber (view d image) g)
+    unfolding groupNumber get
+    group-lowest =
+        behind Group row (omega arith, (omega arith, (omega arith, (omega arith, (omega arith, tt))))) (λ k b. bad.BadGroup.device b) to from
+      where
+        row : List Refusal
+        row =
+            5 when off 0 ∷ 19 when unsplit p g ∷ 20 when overlaps p g ∷ 21 when narrow p g
+            ∷ 8 when (badMark (last p) || dirty mark (members p g)) ∷ []
+
+        marks : badMark (last p) || dirty mark (members p g) ≡ true → Group 8
+        marks =
+            either (Group 8) (badMark (last p)) (dirty mark (members p g))
+            (λ h. bad.BadGroup.recordMark (last p) refl (mark-to (last p) h))
+            (λ h. let t = dirty-to (members p g) h in
+            bad.BadGroup.memberMark (members p g) (t .unit) (group-told p g (dirty-splits h)) (t .has) (t .bad))
+
+        to : (k : ℕ) → Says k row → Group k
+        to k (here e h) = number-is Group 5 k e (bad.BadGroup.phase (not-ready-to (d .phase) h))
+        to k (there (here e h)) = number-is Group 19 k e (bad.BadGroup.unsplit (λ xs is. true≢false (sym h ∙ told-group p is .0)))
+        to k (there (there (here e h))) =
+            number-is Group 20 k e (bad.BadGroup.overlaps (members p g) (group-told p g (twice-splits h)) (overlaps-told p g h))
+        to k (there (there (there (here e h)))) = number-is Group 21 k e (bad.BadGroup.narrow (narrow-told p g h))
+        to k (there (there (there (there (here e h))))) = number-is Group 8 k e (marks h)
+        to k (there (there (there (there (there q))))) = absurd q
+
+        from : (k : ℕ) → Group k → Says k (deviceRow (view d image) ++ row)
+        from k (bad.BadGroup.device b) = front k row b
+        from k (bad.BadGroup.phase h) = back 5 row (here refl (not-ready-from (d .phase) h))
+        from k (bad.BadGroup.unsplit none) =
+            back 19 row (there (here refl (is-true _ (λ e. none (members p g) (group-told p g e)))))
+        from k (bad.BadGroup.overlaps xs is o) =
+            back 20 row (there (there (here refl (told-overlaps p g (subst (Overlaps p) (sym (told-group p is .1)) o)))))
+        from k (bad.BadGroup.narrow n) = back 21 row (there (there (there (here refl (told-narrow p g n)))))
+        from k (bad.BadGroup.recordMark r is h) =
+            back 8 row (there (there (there (there (here refl (or-left _ _ (mark-from (last p) (λ e. h (ap mark is ∙ e)))))))))
+        from k (bad.BadGroup.memberMark xs u is has h) =
+            back 8 row (there (there (there (there (here refl (or-right (badMark (last p)) _
+            (ap (dirty mark) (told-group p is .1) ∙ dirty-from has h)))))))
 
 -- ---- a call's number is that of its row
 told : (n : ℕ) (d : Device) (image : List ℕ) (o : Outcome) → o .number ≡ 0 → n ≡ unlessRefused n d image o .number
@@ -499,7 +698,7 @@ started zero p = refl
 started (suc n) p = refl
 
 pub refused-exactly : RefusedExactly
-unfolding startNumber inspectNumber calls.start calls.format calls.begin calls.ride calls.step calls.wake calls.cut
+unfolding startNumber inspectNumber calls.start calls.format calls.begin calls.ride calls.group calls.step calls.wake calls.cut
 refused-exactly d image =
     record {
       start = subst (Lowest (BadPlan (d .plan))) (started _ _)
@@ -507,6 +706,7 @@ refused-exactly d image =
       format = subst (Lowest (BadFormat d image)) (told _ d image _ refl) (format-lowest d image);
       begin = λ u payload. subst (Lowest (BadBegin d image u payload)) (told _ d image _ refl) (begin-lowest d image u payload);
       ride = λ turns. subst (First rideOrder (BadRide d image turns)) (told _ d image _ refl) (ride-first d image turns);
+      group = λ g. subst (Lowest (BadGroup d image g)) (told _ d image _ refl) (group-lowest d image g);
       step = subst (Lowest (BadStep d image)) (told _ d image _ refl) (step-lowest d image);
       wake = subst (Lowest (BadWake d image)) (told _ d image _ refl) (wake-lowest d image);
       cut = λ bytes. subst (Lowest (BadCut d image bytes)) (told _ d image _ refl) (cut-lowest d image bytes);

@@ -6,18 +6,19 @@ use mathlib.Core.List.{List}
 use lib.ListN.{length}
 use Rattle.model.specs.declared.Plan.{Plan}
 use Rattle.model.specs.Marker.{completed, tornBy}
-use Rattle.model.specs.Refusals.{startNumber, beginNumber, rideNumber, stepNumber, wakeNumber, cutNumber}
+use Rattle.model.specs.Groups.{payloadOf}
+use Rattle.model.specs.Refusals.{startNumber, beginNumber, rideNumber, groupNumber, stepNumber, wakeNumber, cutNumber}
 use Rattle.model.specs.Turns.{plus}
-use Rattle.model.specs.Calls.{Device, Outcome, outcome, asStarted, asBegun, asStepped, asWoken, asCut, padded, heldIn, view, imageAfter, cleanupFrom, phaseAfter}
+use Rattle.model.specs.Calls.{Device, Outcome, outcome, asStarted, asBegun, asGrouped, stepFrom, wakeFrom, asCut, padded, heldIn, view, imageAfter, cleanupFrom}
 use Rattle.model.specs.Calls as calls
-use Rattle.model.specs.Ledger.{Ledger, Call, begin, ride, step, cut, wake, opening, judged, told, fed}
-use Rattle.model.specs.PowerCut.{call, run, closedBy}
+use Rattle.model.specs.Ledger.{Ledger, Call, begin, ride, group, step, cut, wake, opening, told, fed, after}
+use Rattle.model.specs.PowerCut.{call, run, closedBy, Closes}
 use Rattle.model.specs.Restart.{restarted, Leads, ended, called, lost, uncounted, PowerCutRestarting, RestartingAlike}
 use Rattle.model.proofs.RefusalLaws.{PlanOk, start-fine}
 use Rattle.model.proofs.LedgerLaws.{ledger-small}
 use Rattle.model.proofs.Invariant.{Inv}
 use Rattle.model.proofs.Keeps.{keeps}
-use Rattle.model.proofs.Theorem.{accepts, along, job-fine, ends-cold, repaired, format-opens}
+use Rattle.model.proofs.Theorem.{accepts, along, ends-cold, Mended, mended, format-opens, saved-before}
 
 -- ---- no call's number, phase, payload or image depends on the count
 settle : (n : ℕ) (o : Outcome) (f : Device → Outcome) → uncounted (f (uncounted o .device)) ≡ uncounted (f (o .device))
@@ -27,21 +28,22 @@ settle zero o f e = e
 settle (suc n) o f e = refl
 
 count-alone : (c : Call) (o : Outcome) → uncounted (call c (uncounted o)) ≡ uncounted (call c o)
-unfolding call calls.begin calls.ride calls.step calls.cut calls.wake imageAfter
+unfolding call calls.begin calls.ride calls.group calls.step calls.cut calls.wake imageAfter
 count-alone (begin u payload) o =
     settle (beginNumber (view (o .device) (o .image)) u (length payload)) o (λ d. outcome 0 (asBegun u (padded payload) d) (o .image)) refl
 count-alone (ride turns) o =
     settle (rideNumber (view (o .device) (o .image)) (heldIn (o .device) (o .image) 0) turns) o
     (λ d. outcome 0 (asBegun 0 (padded (plus (heldIn d (o .image) 0) turns)) d) (o .image)) refl
+count-alone (group g) o =
+    settle (groupNumber (view (o .device) (o .image)) g) o (λ d. outcome 0 (asGrouped (payloadOf (d .plan) g) d) (o .image)) refl
 count-alone step o =
     settle (stepNumber (view (o .device) (o .image))) o
-    (λ d. let i = imageAfter completed d (o .image) in outcome 0 (asStepped (phaseAfter (d .plan) i (d .phase)) d) i)
-    refl
+    (λ d. let i = imageAfter completed d (o .image) in outcome 0 (stepFrom d i) i) refl
 count-alone (cut bytes) o =
     settle (cutNumber (view (o .device) (o .image)) (length bytes)) o
     (λ d. outcome 0 (asCut d) (imageAfter (tornBy bytes) d (o .image))) refl
 count-alone wake o =
-    settle (wakeNumber (view (o .device) (o .image))) o (λ d. outcome 0 (asWoken (cleanupFrom (d .plan) (o .image) 0) d) (o .image)) refl
+    settle (wakeNumber (view (o .device) (o .image))) o (λ d. outcome 0 (wakeFrom d (o .image) (cleanupFrom (d .plan) (o .image) 0)) (o .image)) refl
 
 alike : (c : Call) (o o′ : Outcome) → uncounted o′ ≡ uncounted o → uncounted (call c o′) ≡ uncounted (call c o)
 alike c o o′ e = sym (count-alone c o′) ∙ ap (λ (x : Outcome). uncounted (call c x)) e ∙ count-alone c o
@@ -87,13 +89,19 @@ restarting-alike d image e cs end t =
     let h = format-opens d image e in
     alike-along (d .plan) (h .0) image t (opening (d .plan)) (calls.format d image) (h .1) refl
 
-pub power-cut-restarting : PowerCutRestarting
-power-cut-restarting d image e cs bytes end closes t =
+pub mended-restarting : (d : Device) (image : List ℕ) (e : calls.format d image .number ≡ 0) (cs : List Call) (bytes : List ℕ) (end : Outcome)
+    → Closes bytes cs (calls.format d image) → Leads (d .plan) (closedBy bytes cs) (calls.format d image) end
+    → Mended (d .plan) (format-opens d image e .0) image (after (d .plan) (opening (d .plan)) (closedBy bytes cs)) end
+mended-restarting d image e cs bytes end closes t =
     let h = format-opens d image e in
     let p : Plan = d .plan in
     let f : Outcome = calls.format d image in
     let i = along p (h .0) image (closedBy bytes cs) (opening p) f (h .1) .inv in
-    repaired p (h .0) image _ end
+    mended p (h .0) image _ end
     (inv-alike p (h .0) image _ (run (closedBy bytes cs) f) end (restarting-alike d image e (closedBy bytes cs) end t) i)
+    (saved-before d image e (closedBy bytes cs))
     (ends-cold p (h .0) image cs bytes (opening p) f (h .1) closes)
     (ledger-small p (closedBy bytes cs))
+
+pub power-cut-restarting : PowerCutRestarting
+power-cut-restarting d image e cs bytes end closes t = mended-restarting d image e cs bytes end closes t .is

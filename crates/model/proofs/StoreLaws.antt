@@ -13,11 +13,12 @@ use Rattle.model.specs.declared.Direction.{Direction}
 use Rattle.model.specs.declared.Phase.the-variants.{Ready, Writing, Recovering}
 use Rattle.model.specs.Marker.{OK, A, B, direction}
 use Rattle.model.specs.Layout.{Copy, copyA, copyB, marker, byte, width, get}
-use Rattle.model.specs.Refusals.{writeTotal, cleanupTotal}
+use Rattle.model.specs.Refusals.{ready, grouping, writeTotal, cleanupTotal}
 use Rattle.model.specs.Stores.{Store, store, copying, writeStores, source, target, cleanupStores}
-use Rattle.model.specs.Calls.{next, lowestBad, cleanupOf, cleanupFrom, phaseAfter}
+use Rattle.model.specs.Calls.{next, lowestBad, cleanupOf, cleanupFrom, phaseAfter, resumed, reloaded, payloadAfter}
 use Rattle.model.proofs.Compare.{below, above, order}
-use Rattle.model.proofs.Tasks.{Task, alone, phaseAt, taskWrite, follows, phased}
+use Rattle.model.proofs.Tasks.{Task, alone, phaseAt, taskWrite, follows, phased, part, phased-cond}
+use Rattle.model.specs.Groups.{isLastWrite}
 
 -- ---- within a run of copied bytes, and past it
 module _ (u : ℕ) (c : Copy) (f : ℕ → ℕ) (rest : List Store) where
@@ -81,50 +82,72 @@ module _ (p : Plan) (payload image : List ℕ) (u : ℕ) where
   unfolding next cleanupStores
   next-settle d = copying-past u (target d) (λ i. get p image u (byte (source d) i)) _ w 0 w 0 (omega arith)
 
--- a task's stores are those of a write
+-- a group's write has the stores of a write
 pub next-task : (p : Plan) (payload image : List ℕ) (t : Task) (n : ℕ)
     → next p payload image (phaseAt t n) ≡ next p (taskWrite p payload t .bytes) image (Writing (taskWrite p payload t .unit) n)
 unfolding next
 next-task p payload image (alone v) n = refl
+next-task p payload image (part i) n = refl
 
 -- ---- the phase after a store
-module _ (p : Plan) (image : List ℕ) (u n : ℕ) where
-  pub write-goes-on : ¬ (suc n ≡ writeTotal (width p u)) → phaseAfter p image (Writing u n) ≡ Writing u (suc n)
+module _ (p : Plan) (payload image : List ℕ) (u n : ℕ) where
+  pub write-goes-on : ¬ (suc n ≡ writeTotal (width p u)) → phaseAfter p payload image (Writing u n) ≡ Writing u (suc n)
   unfolding phaseAfter
   write-goes-on h = rw (ne-eqb (suc n) (writeTotal (width p u)) h, phaseAfter)
 
-  pub write-ends : suc n ≡ writeTotal (width p u) → phaseAfter p image (Writing u n) ≡ Ready
+  pub write-ends : suc n ≡ writeTotal (width p u) → phaseAfter p payload image (Writing u n) ≡ Ready
   unfolding phaseAfter
   write-ends h = rw (eq-eqb (suc n) (writeTotal (width p u)) h, phaseAfter)
 
   pub cleanup-goes-on : (d : Direction) → ¬ (suc n ≡ cleanupTotal (width p u))
-      → phaseAfter p image (Recovering u n d) ≡ Recovering u (suc n) d
+      → phaseAfter p payload image (Recovering u n d) ≡ Recovering u (suc n) d
   unfolding phaseAfter
   cleanup-goes-on d h = rw (ne-eqb (suc n) (cleanupTotal (width p u)) h, phaseAfter)
 
   pub cleanup-ends : (d : Direction) → suc n ≡ cleanupTotal (width p u)
-      → phaseAfter p image (Recovering u n d) ≡ cleanupFrom p image (suc u)
+      → phaseAfter p payload image (Recovering u n d) ≡ resumed p image (cleanupFrom p image (suc u))
   unfolding phaseAfter
   cleanup-ends d h = rw (eq-eqb (suc n) (cleanupTotal (width p u)) h, phaseAfter)
 
--- the same of a task
+  pub cleanup-holds : (d : Direction) → ¬ (suc n ≡ cleanupTotal (width p u))
+      → payloadAfter p payload image (Recovering u n d) ≡ payload
+  unfolding payloadAfter
+  cleanup-holds d h = rw (ne-eqb (suc n) (cleanupTotal (width p u)) h, payloadAfter)
+
+  pub cleanup-loads : (d : Direction) → suc n ≡ cleanupTotal (width p u)
+      → payloadAfter p payload image (Recovering u n d) ≡ reloaded p image (cleanupFrom p image (suc u)) payload
+  unfolding payloadAfter
+  cleanup-loads d h = rw (eq-eqb (suc n) (cleanupTotal (width p u)) h, payloadAfter)
+
+-- ---- the same of a write, a begin's or a group's
 module _ (p : Plan) (payload image : List ℕ) (t : Task) (n : ℕ) where
-  pub task-goes-on : ¬ (suc n ≡ writeTotal (width p (taskWrite p payload t .unit))) → phaseAfter p image (phaseAt t n) ≡ phaseAt t (suc n)
+  pub task-goes-on : ¬ (suc n ≡ writeTotal (width p (taskWrite p payload t .unit)))
+      → phaseAfter p payload image (phaseAt t n) ≡ phaseAt t (suc n)
   unfolding phaseAfter
   task-goes-on h = go t (ne-eqb (suc n) (writeTotal (width p (taskWrite p payload t .unit))) h)
     where
       go : (t : Task) → eqb (suc n) (writeTotal (width p (taskWrite p payload t .unit))) ≡ false
-          → phaseAfter p image (phaseAt t n) ≡ phaseAt t (suc n)
+          → phaseAfter p payload image (phaseAt t n) ≡ phaseAt t (suc n)
       go (alone u) e = rw (e, phaseAfter)
+      go (part i) e = rw (e, phaseAfter)
 
   pub task-ends : (d : Direction) → suc n ≡ writeTotal (width p (taskWrite p payload t .unit))
-      → phaseAfter p image (phaseAt t n) ≡ phased d (follows p payload t)
+      → phaseAfter p payload image (phaseAt t n) ≡ phased d (follows p payload t)
   unfolding phaseAfter
   task-ends d h = go t (eq-eqb (suc n) (writeTotal (width p (taskWrite p payload t .unit))) h)
     where
       go : (t : Task) → eqb (suc n) (writeTotal (width p (taskWrite p payload t .unit))) ≡ true
-          → phaseAfter p image (phaseAt t n) ≡ phased d (follows p payload t)
+          → phaseAfter p payload image (phaseAt t n) ≡ phased d (follows p payload t)
       go (alone u) e = rw (e, phaseAfter)
+      go (part i) e = rw (e, phaseAfter) (phased-cond d (isLastWrite p payload i) ready (grouping (suc i) 0))
+
+  pub task-holds : payloadAfter p payload image (phaseAt t n) ≡ payload
+  unfolding payloadAfter
+  task-holds = go t
+    where
+      go : (t : Task) → payloadAfter p payload image (phaseAt t n) ≡ payload
+      go (alone u) = refl
+      go (part i) = refl
 
 -- ---- looking for a marker that isn't OK
 module _ (p : Plan) (image : List ℕ) where

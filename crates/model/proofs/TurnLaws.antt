@@ -1,5 +1,5 @@
 -- Rides: bytes as numbers, and what a ride's 0 says.
-use Prim.Native.Nat.{ℕ, zero, suc, _+_, _*_, _/_, _%_, _≤_, _<_}
+use Prim.Native.Nat.{ℕ, zero, suc, _+_, _*_, _/_, _<_}
 use mathlib.Core.Path.{_≡_, refl, ap, sym, _∙_}
 use mathlib.Core.List.{List, [], _∷_, _++_}
 use mathlib.Core.Bool.{false, not}
@@ -15,7 +15,8 @@ use Rattle.model.specs.Layout.{copyA, byte, place, copyOf}
 use Rattle.model.specs.Demands.{lowestFirst, held}
 use Rattle.model.specs.Plans.{width}
 use Rattle.model.specs.Turns.{amount, inBytes, plus}
-use Rattle.model.specs.Refusals.{ready, isReady, View, deviceRow, beginNumber, rideNumber, first, _when_}
+use Rattle.model.specs.Groups.{isRecord}
+use Rattle.model.specs.Refusals.{ready, isReady, View, deviceRow, beginNumber, rideNumber, _when_}
 use Rattle.model.proofs.RefusalLaws.{PlanOk, count-bounds, ready-only, past, first-past, first-skip, first-none, first-from, device-passed, Alike}
 
 pub bytes-size : (n v : ℕ) → length (inBytes n v) ≡ n
@@ -93,6 +94,7 @@ pub record Rode (v : View) (bytes : List ℕ) (turns : ℕ) : Type 0 where
   pub long : v .short ≡ false
   pub job : v .job ≡ ready
   pub wide : width (v .plan) 0 ≡ 8
+  pub other : isRecord (v .plan) 0 ≡ false
   pub mark : not (eqb (v .marker 0) OK) ≡ false
   pub room : ltb 18446744073709551615 (amount bytes + turns) ≡ false
 
@@ -102,13 +104,15 @@ ride-says v bytes turns e =
     let h = past v _ e in
     let h₅ = first-past 4 (not (isReady (v .job))) _ (h .more) in
     let h₁₆ = first-past 15 (not (eqb (width (v .plan) 0) 8)) _ (h₅ .1) in
-    let h₈ = first-past 7 (not (eqb (v .marker 0) OK)) _ (h₁₆ .1) in
+    let h₂₀ = first-past 19 (isRecord (v .plan) 0) _ (h₁₆ .1) in
+    let h₈ = first-past 7 (not (eqb (v .marker 0) OK)) _ (h₂₀ .1) in
     let h₁₅ = first-past 14 (ltb 18446744073709551615 (amount bytes + turns)) [] (h₈ .1) in
     record {
       plan = h .plan;
       long = h .long;
       job = ready-only (v .job) (h₅ .0);
       wide = eqb-true _ 8 (not-false _ (h₁₆ .0));
+      other = h₂₀ .0;
       mark = h₈ .0;
       room = h₁₅ .0;
     }
@@ -121,6 +125,7 @@ ride-begins v bytes turns e =
     device-passed v _ _ e
     ∙ first-skip 5 _ _ (rw (r .job))
     ∙ first-skip 6 _ _ (lt-leb (v .plan .count) 0 (count-bounds (v .plan) (r .plan) .0))
+    ∙ first-skip 20 _ _ (r .other)
     ∙ first-skip 7 _ _ (ap not (eq-eqb _ _ (plus-size bytes turns ∙ sym (r .wide))))
     ∙ first-skip 8 _ [] (r .mark)
     ∙ first-none
@@ -131,7 +136,7 @@ pub ride-alike : {v v′ : View} → Alike v v′ → {bytes bytes′ : List ℕ
     → rideNumber v bytes turns ≡ rideNumber v′ bytes′ turns
 unfolding rideNumber
 ride-alike {v} {v′} a {bytes} {bytes′} turns h =
-    rw (a .plan, a .short, a .job)
+    rw (a .bad, a .plan, a .short, a .job)
     (first-from (deviceRow v′ ++ (5 when not (isReady (v′ .job)) ∷ [])) _ _
     (λ e.
     let t = past v′ _ e in

@@ -3,9 +3,10 @@ use mathlib.Core.Path.{refl}
 use Rattle.model.specs.Marker.{direction, tornBits, torn}
 use Rattle.model.specs.Layout.{wholePages, base, get, put, putPage, copyOf, fresh, formatted}
 use Rattle.model.specs.Refusals.{badCount, badWidths, badPage, badJob, first, startNumber, formatNumber, wakeNumber, stepNumber, cutNumber, inspectNumber, readNumber, anyForeign, beginNumber}
+use Rattle.model.specs.Groups.{stands}
 use Rattle.model.specs.Stores.{copying, writeStores, cleanupStores, stored}
 use Rattle.model.specs.Calls as calls
-use Rattle.model.specs.Ledger.{opening, markerOf, told, writeMarker, cleanupMarker, saving, accepted, fed, tells, after}
+use Rattle.model.specs.Ledger.{opening, markerOf, told, writeMarker, cleanupMarker, saving, savingAll, savingAll, accepted, fed, tells, after}
 use Rattle.model.specs.PowerCut.{call, run, answers}
 use Rattle.model.specs.Drive.{driveNumber, drive}
 use Rattle.model.specs.Cases.{EveryCase}
@@ -13,15 +14,15 @@ use Rattle.model.specs.Edges.{EveryRefusal, EveryOutcome, EveryStart, Ev
 
 -- C1 to C12
 pub every-case : EveryCase
-unfolding direction tornBits torn wholePages base get put putPage fresh formatted badCount badWidths badPage badJob first startNumber formatNumber wakeNumber stepNumber cutNumber anyForeign beginNumber copying writeStores cleanupStores stored calls.next calls.imageAfter calls.lowestBad calls.phaseAfter calls.start calls.format calls.begin calls.step calls.wake calls.cut opening markerOf told writeMarker cleanupMarker saving accepted fed tells after call run answers driveNumber drive
+unfolding direction tornBits torn wholePages base get put putPage fresh formatted badCount badWidths badPage badJob first startNumber formatNumber wakeNumber stepNumber cutNumber anyForeign beginNumber copying writeStores cleanupStores stored calls.next calls.imageAfter calls.lowestBad calls.phaseAfter calls.payloadAfter calls.start calls.format calls.begin calls.step calls.wake calls.resumes stands calls.cut opening markerOf told writeMarker cleanupMarker saving savingAll accepted fed tells after call run answers driveNumber drive
 every-case = refl
 
 pub every-refusal : EveryRefusal
-unfolding wholePages base get badCount badWidths badPage badJob first startNumber formatNumber wakeNumber stepNumber cutNumber inspectNumber readNumber anyForeign beginNumber calls.start calls.format calls.begin calls.step calls.wake calls.cut
+unfolding wholePages base get badCount badWidths badPage badJob first startNumber formatNumber wakeNumber stepNumber cutNumber inspectNumber readNumber anyForeign beginNumber calls.start calls.format calls.begin calls.step calls.wake calls.resumes stands calls.cut
 every-refusal = refl
 
 pub every-outcome : EveryOutcome
-unfolding direction tornBits torn wholePages base get put putPage fresh formatted badCount badWidths badPage badJob first formatNumber wakeNumber stepNumber cutNumber anyForeign beginNumber copying writeStores cleanupStores stored calls.next calls.imageAfter calls.lowestBad calls.phaseAfter calls.counted calls.format calls.begin calls.step calls.wake calls.cut call trace
+unfolding direction tornBits torn wholePages base get put putPage fresh formatted badCount badWidths badPage badJob first formatNumber wakeNumber stepNumber cutNumber anyForeign beginNumber copying writeStores cleanupStores stored calls.next calls.imageAfter calls.lowestBad calls.phaseAfter calls.payloadAfter calls.counted calls.format calls.begin calls.step calls.wake calls.resumes stands calls.cut call trace
 every-outcome = refl
 
 pub every-start : EveryStart
@@ -33,11 +34,11 @@ unfolding wholePages base get copyOf badCount badWidths badPage badJob first rea
 every-part = refl
 
 pub every-entry : EveryEntry
-unfolding tornBits torn badCount badWidths badPage badJob first wakeNumber stepNumber cutNumber anyForeign beginNumber opening markerOf told writeMarker cleanupMarker saving accepted fed after
+unfolding tornBits torn badCount badWidths badPage badJob first wakeNumber stepNumber cutNumber anyForeign beginNumber opening markerOf told writeMarker cleanupMarker saving savingAll accepted fed after stands
 every-entry = refl
 
 pub foreign-told : ForeignTold
-unfolding badCount badWidths badPage badJob first wakeNumber anyForeign beginNumber markerOf told accepted fed tells
+unfolding badCount badWidths badPage badJob first wakeNumber anyForeign beginNumber markerOf told accepted fed tells stands
 foreign-told = refl
 
 pub every-inspection : EveryInspection
@@ -45,7 +46,7 @@ unfolding wholePages base get badCount badWidths badPage badJob first inspectNum
 every-inspection = refl
 
 pub every-count : EveryCount
-unfolding direction tornBits torn wholePages base get put putPage fresh formatted badCount badWidths badPage badJob first startNumber formatNumber wakeNumber stepNumber cutNumber anyForeign beginNumber copying writeStores cleanupStores stored calls.next calls.imageAfter calls.lowestBad calls.phaseAfter calls.counted calls.start calls.format calls.begin calls.step calls.wake calls.cut
+unfolding direction tornBits torn wholePages base get put putPage fresh formatted badCount badWidths badPage badJob first startNumber formatNumber wakeNumber stepNumber cutNumber anyForeign beginNumber copying writeStores cleanupStores stored calls.next calls.imageAfter calls.lowestBad calls.phaseAfter calls.payloadAfter calls.counted calls.start calls.format calls.begin calls.step calls.wake calls.resumes stands calls.cut
 every-count = refl
 
 pub every-driving : EveryDriving

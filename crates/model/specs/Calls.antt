@@ -1,19 +1,21 @@
 -- What each call of document 01 gives: its number, the next device, and every byte of the image.
-use Prim.Native.Nat.{ℕ, zero, suc, _+_, _-_, _<_}
+use Prim.Native.Nat.{ℕ, zero, suc, _-_, _<_}
 use mathlib.Core.Path.{_≡_}
-use mathlib.Core.List.{List, [], _++_}
+use mathlib.Core.List.{List, []}
 use mathlib.Core.Option.{Option, none, some}
-use mathlib.Core.Bool.{cond}
+use mathlib.Core.Bool.{Bool, false, cond, _&&_}
 use lib.Dec.{eqb, ltb}
 use lib.ListN.{length, getElem?, replicate}
 use Rattle.model.specs.declared.Plan.{Plan}
 use Rattle.model.specs.declared.Inspection.{Inspection}
 use Rattle.model.specs.declared.Inspection.the-variants.{Refused, Suspect, AllOk}
 use Rattle.model.specs.declared.Phase.{Phase}
-use Rattle.model.specs.declared.Phase.the-variants.{Cold, Ready, Writing, Recovering}
+use Rattle.model.specs.declared.Phase.the-variants.{Cold, Ready, Writing, Recovering, Grouping}
 use Rattle.model.specs.Marker.{OK, direction, End, completed, tornBy}
 use Rattle.model.specs.Layout.{copyA, marker, width, total, get, copyOf, formatted}
-use Rattle.model.specs.Refusals.{Job, cold, ready, writing, recovering, View, writeTotal, cleanupTotal, startNumber, formatNumber, beginNumber, stepNumber, wakeNumber, cutNumber, readNumber, inspectNumber, rideNumber, totalNumber}
+pub use Rattle.model.specs.Groups.{padded}
+use Rattle.model.specs.Groups.{last, payloadOf, stands, writeAt, isLastWrite}
+use Rattle.model.specs.Refusals.{Job, cold, ready, writing, recovering, grouping, isReady, View, writeTotal, cleanupTotal, startNumber, formatNumber, beginNumber, groupNumber, stepNumber, wakeNumber, cutNumber, readNumber, inspectNumber, rideNumber, totalNumber}
 use Rattle.model.specs.Stores.{Store, writeStores, cleanupStores, stored}
 use Rattle.model.specs.Turns.{amount, plus}
 
@@ -52,11 +54,12 @@ abbrev pub asFormatted : Device → Device
 asFormatted d = record { plan = d .plan; payload = zeroPayload; phase = Ready; stores = 0 }
 
 -- "the payload goes into the device, zeros after it; phase Writing, 0 made"
-abbrev pub padded : List ℕ → List ℕ
-padded payload = payload ++ replicate (256 - length payload) 0
-
 abbrev pub asBegun : ℕ → List ℕ → Device → Device
 asBegun u held d = record { plan = d .plan; payload = held; phase = Writing u 0; stores = d .stores }
+
+-- Ticket 10: "A group phase .. the payload being the record, zeros after it"
+abbrev pub asGrouped : List ℕ → Device → Device
+asGrouped held d = record { plan = d .plan; payload = held; phase = Grouping 0 0; stores = d .stores }
 
 -- Ticket 5: "each completed step adds 1, and it holds at 4,294,967,295"
 abbrev pub mostStores : ℕ
@@ -65,13 +68,11 @@ mostStores = 4294967295
 unfoldable pub counted : ℕ → ℕ
 counted n = cond (ltb n mostStores) (suc n) n
 
--- "The payload stays."
-abbrev pub asStepped : Phase → Device → Device
-asStepped phase d = record { plan = d .plan; payload = d .payload; phase = phase; stores = counted (d .stores) }
+abbrev pub asStepped : Phase → List ℕ → Device → Device
+asStepped phase held d = record { plan = d .plan; payload = held; phase = phase; stores = counted (d .stores) }
 
--- "The payload stays as it is."
-abbrev pub asWoken : Phase → Device → Device
-asWoken phase d = record { plan = d .plan; payload = d .payload; phase = phase; stores = d .stores }
+abbrev pub asWoken : Phase → List ℕ → Device → Device
+asWoken phase held d = record { plan = d .plan; payload = held; phase = phase; stores = d .stores }
 
 -- "The device is then Cold with a zero payload." Ticket 5: "A torn store doesn't count; cut keeps the number"
 abbrev pub asCut : Device → Device
@@ -83,19 +84,21 @@ jobOf Cold = cold
 jobOf Ready = ready
 jobOf (Writing u made) = writing u made
 jobOf (Recovering u made d) = recovering u made
+jobOf (Grouping i made) = grouping i made
 
 -- "3 image too short (all calls with an image)"
-abbrev pub viewOf : Plan → Phase → List ℕ → View
-viewOf p phase image =
+abbrev pub viewOf : Plan → List ℕ → Phase → List ℕ → View
+viewOf p payload phase image =
     record {
       plan = p;
       short = ltb (length image) (total p);
+      payload = payload;
       job = jobOf phase;
       marker = λ u. get p image u marker;
     }
 
 abbrev pub view : Device → List ℕ → View
-view d image = viewOf (d .plan) (d .phase) image
+view d image = viewOf (d .plan) (d .payload) (d .phase) image
 
 -- "A refusal returns the device it got and changes no lent byte."
 abbrev pub unlessRefused : ℕ → Device → List ℕ → Outcome → Outcome
@@ -108,6 +111,8 @@ next p payload image Cold = none
 next p payload image Ready = none
 next p payload image (Writing u made) = getElem? (writeStores p u payload) made
 next p payload image (Recovering u made d) = getElem? (cleanupStores p image u d) made
+next p payload image (Grouping i made) =
+    getElem? (writeStores p (writeAt p payload i .unit) (writeAt p payload i .bytes)) made
 
 -- the image after the next store, completed or torn; "in Cold and Ready it stores nothing"
 unfoldable pub imageAfter : End → Device → List ℕ → List ℕ
@@ -126,20 +131,50 @@ cleanupOf p image (some u) = Recovering u 0 (direction (get p image u marker))
 abbrev pub cleanupFrom : Plan → List ℕ → ℕ → Phase
 cleanupFrom p image u = cleanupOf p image (lowestBad p image (p .count - u) u)
 
+-- Ticket 10: "Wake's cleanup, once done, or wake itself where every marker is 1, goes on, by steps, to write the members of a
+-- standing record again and clears it": whether it does, from the phase that the search for a cleanup came to. Ticket 7: "here and
+-- in later tickets, a unit's total or record is taken from copy A".
+abbrev pub recordIn : Plan → List ℕ → List ℕ
+recordIn p image = copyOf p image (last p) copyA
+
+unfoldable pub resumes : Plan → List ℕ → Phase → Bool
+resumes p image found = isReady (jobOf found) && stands p (recordIn p image)
+
+-- the members are the writes from 1 on; "the payload being the record, zeros after it"
+abbrev pub resumed : Plan → List ℕ → Phase → Phase
+resumed p image found = cond (resumes p image found) (Grouping 1 0) found
+
+abbrev pub reloaded : Plan → List ℕ → Phase → List ℕ → List ℕ
+reloaded p image found payload = cond (resumes p image found) (padded (recordIn p image)) payload
+
 -- "adds 1. After a write's last store the phase is Ready. After a cleanup's last, it is the cleanup of the next higher unit
--- whose marker isn't 1, or Ready."
-unfoldable pub phaseAfter : Plan → List ℕ → Phase → Phase
-phaseAfter p image Cold = Cold
-phaseAfter p image Ready = Ready
-phaseAfter p image (Writing u made) =
+-- whose marker isn't 1, or Ready." Ticket 10: "Steps write the record, then each member in order, then a record of zeros."
+unfoldable pub phaseAfter : Plan → List ℕ → List ℕ → Phase → Phase
+phaseAfter p payload image Cold = Cold
+phaseAfter p payload image Ready = Ready
+phaseAfter p payload image (Writing u made) =
     cond (eqb (suc made) (writeTotal (width p u))) Ready (Writing u (suc made))
-phaseAfter p image (Recovering u made d) =
-    cond (eqb (suc made) (cleanupTotal (width p u))) (cleanupFrom p image (suc u)) (Recovering u (suc made) d)
+phaseAfter p payload image (Recovering u made d) =
+    cond (eqb (suc made) (cleanupTotal (width p u))) (resumed p image (cleanupFrom p image (suc u))) (Recovering u (suc made) d)
+phaseAfter p payload image (Grouping i made) =
+    cond (eqb (suc made) (writeTotal (width p (writeAt p payload i .unit))))
+    (cond (isLastWrite p payload i) Ready (Grouping (suc i) 0))
+    (Grouping i (suc made))
+
+-- "The payload stays.", but where a cleanup's last store goes on to a standing record
+unfoldable pub payloadAfter : Plan → List ℕ → List ℕ → Phase → List ℕ
+payloadAfter p payload image Cold = payload
+payloadAfter p payload image Ready = payload
+payloadAfter p payload image (Writing u made) = payload
+payloadAfter p payload image (Recovering u made d) =
+    cond (eqb (suc made) (cleanupTotal (width p u))) (reloaded p image (cleanupFrom p image (suc u)) payload) payload
+payloadAfter p payload image (Grouping i made) = payload
 
 -- ---- The calls.
--- "start's refusal returns k = 0, all widths 0, Cold, zero payload"; Ticket 9: "p = 1, as in a refused start"
+-- "start's refusal returns k = 0, all widths 0, Cold, zero payload"; Ticket 9: "p = 1, as in a refused start"; Ticket 10: "A device may
+-- be started as grouped (a refused start isn't)"
 abbrev pub noPlan : Plan
-noPlan = record { count = 0; widths = replicate 8 0; page = 1 }
+noPlan = record { count = 0; widths = replicate 8 0; page = 1; grouped = false }
 
 abbrev pub startAnswer : ℕ → Plan → Answer
 startAnswer zero p = record { number = 0; device = asStarted p }
@@ -168,18 +203,31 @@ ride d image turns =
     unlessRefused (rideNumber (view d image) (heldIn d image 0) turns) d image
     (outcome 0 (asBegun 0 (padded (plus (heldIn d image 0) turns)) d) image)
 
+-- Ticket 10: "A group, in Ready only (else 5), is the bytes of 2 to 4 members"
+unfoldable pub group : Device → List ℕ → List ℕ → Outcome
+group d image g =
+    unlessRefused (groupNumber (view d image) g) d image (outcome 0 (asGrouped (payloadOf (d .plan) g) d) image)
+
 -- "makes the next store and adds 1"
+abbrev pub stepFrom : Device → List ℕ → Device
+stepFrom d image =
+    asStepped (phaseAfter (d .plan) (d .payload) image (d .phase)) (payloadAfter (d .plan) (d .payload) image (d .phase)) d
+
 unfoldable pub step : Device → List ℕ → Outcome
 step d image =
     unlessRefused (stepNumber (view d image)) d image
-    (outcome 0 (asStepped (phaseAfter (d .plan) (imageAfter completed d image) (d .phase)) d) (imageAfter completed d image))
+    (outcome 0 (stepFrom d (imageAfter completed d image)) (imageAfter completed d image))
 
--- "stores nothing; the cleanup of the lowest unit whose marker isn't 1, or Ready"
+-- "stores nothing; the cleanup of the lowest unit whose marker isn't 1, or Ready"; or on to a standing record
+abbrev pub wakeFrom : Device → List ℕ → Phase → Device
+wakeFrom d image found = asWoken (resumed (d .plan) image found) (reloaded (d .plan) image found (d .payload)) d
+
 unfoldable pub wake : Device → List ℕ → Outcome
 wake d image =
-    unlessRefused (wakeNumber (view d image)) d image (outcome 0 (asWoken (cleanupFrom (d .plan) image 0) d) image)
+    unlessRefused (wakeNumber (view d image)) d image (outcome 0 (wakeFrom d image (cleanupFrom (d .plan) image 0)) image)
 
--- "in Writing or Recovering it tears the next store; in Cold and Ready it stores nothing"; Ticket 9: "Cut now takes p bytes"
+-- "in Writing or Recovering it tears the next store; in Cold and Ready it stores nothing"; Ticket 9: "Cut now takes p bytes"; Ticket 10:
+-- "A group phase, torn by cut as Writing is"
 unfoldable pub cut : Device → List ℕ → List ℕ → Outcome
 cut d image bytes =
     unlessRefused (cutNumber (view d image) (length bytes)) d image (outcome 0 (asCut d) (imageAfter (tornBy bytes) d image))

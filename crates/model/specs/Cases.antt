@@ -1,6 +1,7 @@
 -- Document 01, 'Cases at the edges', as one table. proofs/WorkedCases.antt has the theorem that the definitions give every row.
 use Prim.Native.Nat.{ℕ, zero, suc}
 use mathlib.Core.Path.{_≡_}
+use mathlib.Core.Bool.{false}
 use mathlib.Core.List.{List, [], _∷_, _++_, map}
 use lib.ListN.{length, take, replicate}
 use Rattle.model.specs.declared.Plan.{Plan}
@@ -26,7 +27,7 @@ pub data Result : Type 0 where
   drives : ℕ → ℕ → Result
 
 abbrev pub paged : ℕ → List ℕ → ℕ → Plan
-paged count widths page = record { count = count; widths = widths; page = page }
+paged count widths page = record { count = count; widths = widths; page = page; grouped = false }
 
 abbrev pub planned : ℕ → List ℕ → Plan
 planned count widths = paged count widths 1

@@ -1,17 +1,16 @@
 -- Ticket 9's edges as tables: rounding, where units lie, each number of 17 and 18 in its order, and whole images after torn pages, which
 -- the power-cut theorem cannot see. They are computed in proofs/CasesOfPages.antt.
-use Prim.Native.Nat.{ℕ, zero, suc}
+use Prim.Native.Nat.{ℕ}
 use mathlib.Core.Path.{_≡_}
 use mathlib.Core.List.{List, [], _∷_, _++_, map}
 use lib.ListN.{replicate}
 use Rattle.model.specs.declared.Plan.{Plan}
 use Rattle.model.specs.declared.Direction.the-variants.{AToB, BToA}
-use Rattle.model.specs.declared.Inspection.{Inspection}
 use Rattle.model.specs.declared.Inspection.the-variants.{Suspect, AllOk}
 use Rattle.model.specs.declared.Phase.{Phase}
 use Rattle.model.specs.declared.Phase.the-variants.{Cold, Ready, Writing, Recovering}
 use Rattle.model.specs.Layout.{copyA, copyB, marker, byte, wholePages, total, place}
-use Rattle.model.specs.Calls.{Device, Outcome, outcome, zeroPayload}
+use Rattle.model.specs.Calls.{Device, zeroPayload}
 use Rattle.model.specs.Calls as calls
 use Rattle.model.specs.Cases.{paged}
 

@@ -9,7 +9,7 @@ use Rattle.model.specs.declared.Phase.{Phase}
 use Rattle.model.specs.declared.Phase.the-variants.{Cold, Ready, Writing}
 use Rattle.model.specs.Layout.{copyA, copyOf}
 use Rattle.model.specs.Turns.{amount, inBytes}
-use Rattle.model.specs.Calls.{Device, Outcome, Total, zeroPayload}
+use Rattle.model.specs.Calls.{Device, Outcome, Total}
 use Rattle.model.specs.Calls as calls
 use Rattle.model.specs.Ledger.{Call, begin, ride, step, wake}
 use Rattle.model.specs.PowerCut.{run, repair}

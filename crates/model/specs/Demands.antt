@@ -10,20 +10,22 @@
 use Prim.Native.Nat.{ℕ, zero, suc, _+_, _*_, _/_, _%_, _≤_, _<_}
 use mathlib.Core.Path.{_≡_}
 use mathlib.Core.List.{List, []}
-use mathlib.Core.Bool.{cond}
+use mathlib.Core.Bool.{false, cond}
 use lib.Dec.{eqb}
 use lib.ListN.{length, getD, replicate}
 use Rattle.model.specs.declared.Plan.{Plan}
 use Rattle.model.specs.declared.Direction.{Direction}
 use Rattle.model.specs.declared.Direction.the-variants.{AToB, BToA}
 use Rattle.model.specs.declared.Phase.{Phase}
-use Rattle.model.specs.declared.Phase.the-variants.{Cold, Ready, Writing, Recovering}
+use Rattle.model.specs.declared.Phase.the-variants.{Cold, Ready, Writing, Recovering, Grouping}
 use Rattle.model.specs.declared.Inspection.{Inspection}
 use Rattle.model.specs.declared.Inspection.the-variants.{Refused, Suspect, AllOk}
 use Rattle.model.specs.Layout.{Copy, copyA, copyB, Cell, marker, byte, width, copyLength, base, total, place}
 use Rattle.model.specs.Refusals.{readNumber, inspectNumber, totalNumber}
 use Rattle.model.specs.Calls.{Device, Answer, Outcome, outcome, view, Total}
 use Rattle.model.specs.Calls as calls
+use Rattle.model.specs.Groups.{Write}
+use Rattle.model.specs.Records.{IsLast, Gives, WriteOf}
 use Rattle.model.specs.Drive.{driveNumber, drive}
 
 -- ---- Where things lie. Ticket 9: "rounded up to whole pages": n bytes are so many pages, which hold w bytes, and one page less
@@ -55,13 +57,14 @@ pub record Does (P : Outcome → Type 0) (d : Device) (image : List ℕ) (o : Ou
   pub accepted : o .number ≡ 0 → P o
   pub refused : ¬ (o .number ≡ 0) → o ≡ outcome (o .number) d image
 
--- "start's refusal returns k = 0, all widths 0, Cold, zero payload"; Ticket 9: "p = 1, as in a refused start". Accepted, it "keeps
--- the plan as given".
+-- "start's refusal returns k = 0, all widths 0, Cold, zero payload"; Ticket 9: "p = 1, as in a refused start"; Ticket 10: "a refused
+-- start isn't" grouped. Accepted, it "keeps the plan as given".
 pub record Starts (p : Plan) (a : Answer) : Type 0 where
   pub kept : a .number ≡ 0 → a .device .plan ≡ p
   pub count : ¬ (a .number ≡ 0) → a .device .plan .count ≡ 0
   pub widths : ¬ (a .number ≡ 0) → a .device .plan .widths ≡ replicate 8 0
   pub page : ¬ (a .number ≡ 0) → a .device .plan .page ≡ 1
+  pub ungrouped : ¬ (a .number ≡ 0) → a .device .plan .grouped ≡ false
   pub phase : a .device .phase ≡ Cold
   pub payload : a .device .payload ≡ replicate 256 0
   pub stores : a .device .stores ≡ 0
@@ -113,6 +116,15 @@ pub record Rides (d : Device) (image : List ℕ) (turns : ℕ) (o : Outcome) : T
   pub small : (i : ℕ) → i < 8 → getD bytes i 0 < 256
   pub sum : lowestFirst 8 (λ i. getD bytes i 0) ≡ held (d .plan) image 0 + turns
 
+-- Ticket 10: a group begins with the write of its record; "the payload being the record, zeros after it"
+pub record Groups (d : Device) (image : List ℕ) (g : List ℕ) (o : Outcome) : Type 0 where
+  pub plan : o .device .plan ≡ d .plan
+  pub phase : o .device .phase ≡ Grouping 0 0
+  pub stores : o .device .stores ≡ d .stores
+  pub ms : List Write
+  pub gives : Gives (d .plan) (o .device .payload) g ms
+  pub image′ : o .image ≡ image
+
 -- ---- The store that comes next, by the number of stores made.
 -- "marker 2; A's bytes 0 to w-1 from the payload; marker 4; B's bytes 0 to w-1 from the payload; marker 1"
 pub data WriteStore (w : ℕ) (payload : List ℕ) (made : ℕ) : Cell → ℕ → Type 0 where
@@ -128,42 +140,69 @@ pub data CleanupStore (p : Plan) (image : List ℕ) (u made : ℕ) : Direction �
   toA : made < width p u → CleanupStore p image u made BToA (byte copyA made) (at p image u (byte copyB made))
   markerOK : (d : Direction) → made ≡ width p u → CleanupStore p image u made d marker 1
 
+-- Ticket 10: "Steps write the record, then each member in order, then a record of zeros."; "A group phase .. holds the write it is at and
+-- the stores made there"
 pub data NextStore (p : Plan) (payload image : List ℕ) : Phase → ℕ → Cell → ℕ → Type 0 where
   ofWrite : (u made : ℕ) (c : Cell) (x : ℕ) → WriteStore (width p u) payload made c x
       → NextStore p payload image (Writing u made) u c x
   ofCleanup : (u made : ℕ) (d : Direction) (c : Cell) (x : ℕ) → CleanupStore p image u made d c x
       → NextStore p payload image (Recovering u made d) u c x
+  ofGroup : (g bytes : List ℕ) (ms : List Write) (i made u : ℕ) (c : Cell) (x : ℕ) → Gives p payload g ms → WriteOf p payload ms i u bytes
+      → WriteStore (width p u) bytes made c x → NextStore p payload image (Grouping i made) u c x
 
 -- ---- The cleanup that begins. "A copies B to A; B and X copy A to B."
 pub data Way (m : ℕ) : Direction → Type 0 where
   fromB : m ≡ 2 → Way m BToA
   fromA : ¬ (m ≡ 2) → Way m AToB
 
--- "the cleanup of the lowest unit whose marker isn't 1, or Ready", among the units from `first` on; "begins with 0 made"
-pub data Cleans (p : Plan) (image : List ℕ) (first : ℕ) : Phase → Type 0 where
-  none : ((v : ℕ) → first ≤ v → v < p .count → at p image v marker ≡ 1) → Cleans p image first Ready
+-- the markers of the units from `first` on are 1
+abbrev pub AllFrom : Plan → List ℕ → ℕ → Type 0
+AllFrom p image first = (v : ℕ) → first ≤ v → v < p .count → at p image v marker ≡ 1
+
+-- Ticket 10: "goes on, by steps, to write the members of a standing record again and clears it"; Ticket 7: "a unit's total or record is
+-- taken from copy A": a payload that a group gives and whose first bytes are copy A of the last unit
+pub record Stands (p : Plan) (image payload : List ℕ) : Type 0 where
+  pub g : List ℕ
+  pub ms : List Write
+  pub gives : Gives p payload g ms
+  pub r : ℕ
+  pub isLast : IsLast p r
+  pub same : (i : ℕ) → i < width p r → getD payload i 0 ≡ at p image r (byte copyA i)
+
+-- "the cleanup of the lowest unit whose marker isn't 1, or Ready", among the units from `first` on; "begins with 0 made". "a record that no
+-- group passing 19 to 21 gives is passed over". The device's payload is then `held`.
+pub data Cleans (p : Plan) (image payload : List ℕ) (first : ℕ) : Phase → List ℕ → Type 0 where
+  none : AllFrom p image first → ((held : List ℕ) → ¬ Stands p image held) → Cleans p image payload first Ready payload
+  goesOn : (held : List ℕ) → AllFrom p image first → Stands p image held → Cleans p image payload first (Grouping 1 0) held
   lowest : (u : ℕ) (d : Direction) → first ≤ u → u < p .count
       → ¬ (at p image u marker ≡ 1)
       → ((v : ℕ) → first ≤ v → v < u → at p image v marker ≡ 1)
       → Way (at p image u marker) d
-      → Cleans p image first (Recovering u 0 d)
+      → Cleans p image payload first (Recovering u 0 d) payload
 
 -- "adds 1. After a write's last store the phase is Ready. After a cleanup's last, it is the cleanup of the next higher unit
--- whose marker isn't 1, or Ready."
-pub data PhaseAfter (p : Plan) (image′ : List ℕ) : Phase → Phase → Type 0 where
-  writing : (u made : ℕ) → suc made < 2 * width p u + 3 → PhaseAfter p image′ (Writing u made) (Writing u (suc made))
-  written : (u made : ℕ) → suc made ≡ 2 * width p u + 3 → PhaseAfter p image′ (Writing u made) Ready
+-- whose marker isn't 1, or Ready." "The payload stays.", but where a cleanup goes on to a record. The last write of a group is the
+-- one after its members.
+pub data PhaseAfter (p : Plan) (image′ payload : List ℕ) : Phase → Phase → List ℕ → Type 0 where
+  writing : (u made : ℕ) → suc made < 2 * width p u + 3 → PhaseAfter p image′ payload (Writing u made) (Writing u (suc made)) payload
+  written : (u made : ℕ) → suc made ≡ 2 * width p u + 3 → PhaseAfter p image′ payload (Writing u made) Ready payload
   cleaning : (u made : ℕ) (d : Direction) → suc made < width p u + 1
-      → PhaseAfter p image′ (Recovering u made d) (Recovering u (suc made) d)
-  cleaned : (u made : ℕ) (d : Direction) (next : Phase) → suc made ≡ width p u + 1 → Cleans p image′ (suc u) next
-      → PhaseAfter p image′ (Recovering u made d) next
+      → PhaseAfter p image′ payload (Recovering u made d) (Recovering u (suc made) d) payload
+  cleaned : (u made : ℕ) (d : Direction) (next : Phase) (held : List ℕ) → suc made ≡ width p u + 1
+      → Cleans p image′ payload (suc u) next held → PhaseAfter p image′ payload (Recovering u made d) next held
+  grouping : (g bytes : List ℕ) (ms : List Write) (i made u : ℕ) → Gives p payload g ms → WriteOf p payload ms i u bytes
+      → suc made < 2 * width p u + 3 → PhaseAfter p image′ payload (Grouping i made) (Grouping i (suc made)) payload
+  onward : (g bytes : List ℕ) (ms : List Write) (i made u : ℕ) → Gives p payload g ms → WriteOf p payload ms i u bytes
+      → suc made ≡ 2 * width p u + 3 → i ≤ length ms → PhaseAfter p image′ payload (Grouping i made) (Grouping (suc i) 0) payload
+  grouped : (g bytes : List ℕ) (ms : List Write) (made u : ℕ) → Gives p payload g ms → WriteOf p payload ms (suc (length ms)) u bytes
+      → suc made ≡ 2 * width p u + 3 → PhaseAfter p image′ payload (Grouping (suc (length ms)) made) Ready payload
 
 -- Ticket 5: "each completed step adds 1, and it holds at 4,294,967,295"
 pub data Counts (n : ℕ) : ℕ → Type 0 where
   more : n < 4294967295 → Counts n (suc n)
   most : 4294967295 ≤ n → Counts n n
 
--- "makes the next store and adds 1"; "The payload stays."
+-- "makes the next store and adds 1"
 pub record Steps (d : Device) (image : List ℕ) (o : Outcome) : Type 0 where
   pub unit : ℕ
   pub cell : Cell
@@ -171,15 +210,13 @@ pub record Steps (d : Device) (image : List ℕ) (o : Outcome) : Type 0 where
   pub store : NextStore (d .plan) (d .payload) image (d .phase) unit cell value
   pub image′ : OneByte image (o .image) (place (d .plan) unit cell) value
   pub plan : o .device .plan ≡ d .plan
-  pub payload : o .device .payload ≡ d .payload
-  pub phase : PhaseAfter (d .plan) (o .image) (d .phase) (o .device .phase)
+  pub phase : PhaseAfter (d .plan) (o .image) (d .payload) (d .phase) (o .device .phase) (o .device .payload)
   pub stores : Counts (d .stores) (o .device .stores)
 
--- "stores nothing; the cleanup of the lowest unit whose marker isn't 1, or Ready"; "The payload stays as it is."
+-- "stores nothing; the cleanup of the lowest unit whose marker isn't 1, or Ready"
 pub record Wakes (d : Device) (image : List ℕ) (o : Outcome) : Type 0 where
   pub plan : o .device .plan ≡ d .plan
-  pub payload : o .device .payload ≡ d .payload
-  pub phase : Cleans (d .plan) image 0 (o .device .phase)
+  pub phase : Cleans (d .plan) image (d .payload) 0 (o .device .phase) (o .device .payload)
   pub stores : o .device .stores ≡ d .stores
   pub image′ : o .image ≡ image
 
@@ -200,7 +237,7 @@ pub data Torn (bytes : List ℕ) (old new : ℕ) : Cell → ℕ → ℕ → Type
   ofMarker : (left : ℕ) → Mixed (getD bytes 0 0) old new left → Torn bytes old new marker 0 left
   byMarker : (i : ℕ) → Torn bytes old new marker (suc i) (getD bytes (suc i) 0)
 
--- "in Writing or Recovering it tears the next store"; "the page around the byte it is storing": the page number n of the image.
+-- "in Writing or Recovering it tears the next store"; Ticket 10: "A group phase, torn by cut as Writing is"; "the page around the byte it is storing": the page number n of the image.
 -- "No other byte is touched."
 pub record Tears (d : Device) (image : List ℕ) (bytes image′ : List ℕ) : Type 0 where
   pub unit : ℕ
@@ -222,6 +259,7 @@ CutImage Cold d image bytes image′ = image′ ≡ image
 CutImage Ready d image bytes image′ = image′ ≡ image
 CutImage (Writing u made) d image bytes image′ = Tears d image bytes image′
 CutImage (Recovering u made w) d image bytes image′ = Tears d image bytes image′
+CutImage (Grouping i made) d image bytes image′ = Tears d image bytes image′
 
 -- "The device is then Cold with a zero payload." Ticket 5: "cut keeps the number"
 pub record Cuts (d : Device) (image : List ℕ) (bytes : List ℕ) (o : Outcome) : Type 0 where
@@ -262,6 +300,7 @@ pub record Demands (d : Device) (image : List ℕ) : Type 0 where
   pub format : Does (Formats d image) d image (calls.format d image)
   pub begin : (u : ℕ) (payload : List ℕ) → Does (Begins d image u payload) d image (calls.begin d image u payload)
   pub ride : (turns : ℕ) → Does (Rides d image turns) d image (calls.ride d image turns)
+  pub group : (g : List ℕ) → Does (Groups d image g) d image (calls.group d image g)
   pub step : Does (Steps d image) d image (calls.step d image)
   pub wake : Does (Wakes d image) d image (calls.wake d image)
   pub cut : (bytes : List ℕ) → Does (Cuts d image bytes) d image (calls.cut d image bytes)

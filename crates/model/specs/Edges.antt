@@ -332,7 +332,7 @@ EveryEntry = map (λ (n : Noted). noted (n .calls)) entries ≡ map (λ (n : Not
 -- ---- Ticket 4: "refusals that tickets add count there and in the ledger as 01's". No list leaves a ledger with this marker:
 -- its wake is refused with 14 and leaves it Cold.
 abbrev foreignEntry : Ledger
-foreignEntry = record { job = cold; payload = zeroPayload; unit = 1; marker = 8; saved = λ u. [] }
+foreignEntry = record { job = cold; payload = zeroPayload; unit = 1; marker = 8; written = λ u. []; saved = λ u. [] }
 
 abbrev pub ForeignTold : Type 0
 ForeignTold = tells plan21 foreignEntry (wake ∷ write3 ∷ []) ≡ 14 ∷ 5 ∷ []

@@ -3,6 +3,7 @@ pub mod Marker
 pub mod Plans
 pub mod Layout
 pub mod Turns
+pub mod Groups
 pub mod Refusals
 pub mod Stores
 pub mod Calls
@@ -15,10 +16,13 @@ pub mod PageOne
 pub mod Filler
 pub mod Wear
 pub mod Totals
+pub mod Together
 pub mod Drive
 pub mod Cases
 pub mod Edges
 pub mod CasesOfRides
 pub mod CasesOfPages
+pub mod CasesOfGroups
+pub mod Records
 pub mod Demands
 pub mod Refuses

@@ -1,5 +1,6 @@
 -- Document 01, 'Plan and image': what a plan says of its units, and what can be wrong with it.
 use Prim.Native.Nat.{ℕ, zero, suc}
+use mathlib.Core.List.{List}
 use mathlib.Core.Bool.{Bool, false, not, _||_}
 use lib.Dec.{eqb, ltb}
 use lib.ListN.{getD}
@@ -14,9 +15,9 @@ unfoldable pub badCount : Plan → Bool
 badCount p = eqb (p .count) 0 || ltb 8 (p .count)
 
 -- "2 one of the first k widths is 0 or above 256"
-unfoldable pub badWidths : Plan → ℕ → Bool
-badWidths p zero = false
-badWidths p (suc k) = badWidths p k || (eqb (width p k) 0 || ltb 256 (width p k))
+unfoldable pub badWidths : List ℕ → ℕ → Bool
+badWidths widths zero = false
+badWidths widths (suc k) = badWidths widths k || (eqb (getD widths k 0) 0 || ltb 256 (getD widths k 0))
 
 -- Ticket 9: "A plan gains a page size p: 1, 4, 8 or 16."
 pub data PageSize : ℕ → Type 0 where
@@ -26,5 +27,5 @@ pub data PageSize : ℕ → Type 0 where
   sixteen : PageSize 16
 
 -- "17 for another page size"
-unfoldable pub badPage : Plan → Bool
-badPage p = not (eqb (p .page) 1 || (eqb (p .page) 4 || (eqb (p .page) 8 || eqb (p .page) 16)))
+unfoldable pub badPage : ℕ → Bool
+badPage page = not (eqb page 1 || (eqb page 4 || (eqb page 8 || eqb page 16)))

@@ -1,24 +1,29 @@
 -- THE POWER-CUT THEOREM, demand 3 of document 01, as one statement. It is proved in proofs/Theorem.antt.
 --
--- Format a device. Then let anything happen: begins of any unit with any payload, rides, steps, power cuts that leave any bytes in a
--- page, wakes, in any order, calls that are refused among them; and at last one more cut, which is accepted. Then one wake and an
--- exact number of steps bring every marker to OK and both copies of every unit to the payload of its last write that passed.
+-- Format a device. Then let anything happen: begins of any unit with any payload, rides, groups of any bytes, steps, power cuts that
+-- leave any bytes in a page, wakes, in any order, calls that are refused among them; and at last one more cut, which is accepted. Then
+-- one wake and an exact number of steps bring every marker to OK and both copies of every unit to the payload of its last write that
+-- passed, where a group's members pass all at once; and no group record is left standing.
 use Prim.Native.Nat.{ℕ, _+_, _≤_, _<_}
 use mathlib.Core.Path.{_≡_}
 use mathlib.Core.List.{List, [], _∷_, _++_}
+use mathlib.Core.Bool.{true, cond}
 use lib.ListN.{length, drop, replicate}
 use Rattle.model.specs.declared.Plan.{Plan}
 use Rattle.model.specs.declared.Phase.the-variants.{Ready}
 use Rattle.model.specs.Marker.{OK}
 use Rattle.model.specs.Layout.{Copy, marker, width, total, get, copyOf}
-use Rattle.model.specs.Calls.{Device, Outcome, AllMarkersOk}
+use Rattle.model.specs.Groups.{Write, last, padded, stands, remaining}
+use Rattle.model.specs.Refusals.{writeTotal}
+use Rattle.model.specs.Calls.{Device, Outcome, AllMarkersOk, recordIn}
 use Rattle.model.specs.Calls as calls
-use Rattle.model.specs.Ledger.{Call, begin, ride, step, cut, wake, opening, tells, after}
+use Rattle.model.specs.Ledger.{Call, begin, ride, group, step, cut, wake, opening, tells, after}
 
 -- ---- Lists of calls: each call gets the device and the image that the one before left.
 unfoldable pub call : Call → Outcome → Outcome
 call (begin u payload) o = calls.begin (o .device) (o .image) u payload
 call (ride turns) o = calls.ride (o .device) (o .image) turns
+call (group g) o = calls.group (o .device) (o .image) g
 call step o = calls.step (o .device) (o .image)
 call (cut bytes) o = calls.cut (o .device) (o .image) bytes
 call wake o = calls.wake (o .device) (o .image)
@@ -39,7 +44,7 @@ closedBy bytes cs = cs ++ (cut bytes ∷ [])
 abbrev pub repair : ℕ → List Call
 repair n = wake ∷ replicate n step
 
--- ---- What the closing cut may leave, and how many steps its repair takes.
+-- ---- What the closing cut may leave, and how many steps its cleanup takes.
 pub data Repairs (p : Plan) (image : List ℕ) : ℕ → Type 0 where
   -- every marker is OK: none
   none : AllMarkersOk p image → Repairs p image 0
@@ -49,10 +54,25 @@ pub data Repairs (p : Plan) (image : List ℕ) : ℕ → Type 0 where
       → ((v : ℕ) → v < p .count → ¬ (v ≡ u) → get p image v marker ≡ OK)
       → Repairs p image (1 + width p u)
 
--- ---- The repair. `cutOff` is what the closing cut left; `before` is the image as it was before format.
+-- Ticket 10: "The steps to Ready add 2w + 3 for each member and the record if one stands after cleanup."
+unfoldable pub storesOf : Plan → List Write → ℕ
+storesOf p [] = 0
+storesOf p (x ∷ xs) = writeTotal (width p (x .unit)) + storesOf p xs
+
+-- `bytes` are the record unit's
+unfoldable pub added : Plan → List ℕ → ℕ
+added p bytes = cond (stands p bytes) (storesOf p (remaining p (padded bytes))) 0
+
+-- the steps of a repair: the cleanup's, and those of the record that stands after it. `cutOff` is what the closing cut left.
+pub record Takes (p : Plan) (cutOff : Outcome) (steps : ℕ) : Type 0 where
+  pub cleaning : ℕ
+  pub needed : Repairs p (cutOff .image) cleaning
+  pub exactly : steps ≡ cleaning + added p (recordIn p (run (repair cleaning) cutOff .image))
+
+-- ---- The repair. `before` is the image as it was before format.
 pub record Repaired (p : Plan) (before : List ℕ) (saved : ℕ → List ℕ) (cutOff : Outcome) : Type 0 where
   pub steps : ℕ
-  pub needed : Repairs p (cutOff .image) steps
+  pub needed : Takes p cutOff steps
   -- the wake answers 0, and so does each step
   pub accepted : answers (repair steps) cutOff ≡ replicate (1 + steps) 0
   -- the phase is Ready after exactly that many steps, and after none fewer
@@ -61,6 +81,8 @@ pub record Repaired (p : Plan) (before : List ℕ) (saved : ℕ → List ℕ) (c
   -- then every marker is OK, and both copies of every unit are its saved bytes
   pub markers : AllMarkersOk p (run (repair steps) cutOff .image)
   pub copies : (u : ℕ) → u < p .count → (c : Copy) → copyOf p (run (repair steps) cutOff .image) u c ≡ saved u
+  -- Ticket 10: "the record unit ends as zeros"
+  pub cleared : p .grouped ≡ true → saved (last p) ≡ replicate (width p (last p)) 0
   -- the bytes after the units, and the image's length, are as they were
   pub rest : drop (total p) (run (repair steps) cutOff .image) ≡ drop (total p) before
   pub size : length (run (repair steps) cutOff .image) ≡ length before

@@ -5,12 +5,14 @@ use Prim.Native.Nat.{ℕ, zero, suc, _+_, _*_}
 use mathlib.Core.List.{List, [], _∷_, _++_}
 use mathlib.Core.Bool.{Bool, true, false, cond, not, _||_}
 use lib.Dec.{eqb, ltb, leb}
+use lib.ListN.{length}
 use Rattle.model.specs.declared.Plan.{Plan}
-pub use Rattle.model.specs.Numbers.{BAD-COUNT, BAD-WIDTH, SHORT-IMAGE, BAD-JOB, WRONG-PHASE, NO-UNIT, WRONG-SIZE, BAD-MARKER, FOREIGN-MARKER, SUM-TOO-LARGE, NO-TOTAL, BAD-PAGE, WRONG-TEAR}
+pub use Rattle.model.specs.Numbers.{BAD-COUNT, BAD-WIDTH, SHORT-IMAGE, BAD-JOB, WRONG-PHASE, NO-UNIT, WRONG-SIZE, BAD-MARKER, FOREIGN-MARKER, SUM-TOO-LARGE, NO-TOTAL, BAD-PAGE, WRONG-TEAR, BAD-GROUP, UNIT-TAKEN, NO-RECORD}
 unfoldable pub use Rattle.model.specs.Plans.{badCount, badWidths, badPage}
 use Rattle.model.specs.Plans.{width}
 use Rattle.model.specs.Marker.{OK, isForeign}
 use Rattle.model.specs.Turns.{amount}
+use Rattle.model.specs.Groups.{Write, last, isRecord, members, unsplit, overlaps, narrow, given, writes, writeAt}
 
 -- A phase without its direction: "a phase (as above, without direction)" is what the ledger keeps.
 pub data Job : Type 0 where
@@ -18,18 +20,21 @@ pub data Job : Type 0 where
   ready : Job
   writing : ℕ → ℕ → Job
   recovering : ℕ → ℕ → Job
+  grouping : ℕ → ℕ → Job
 
 abbrev pub isCold : Job → Bool
 isCold cold = true
 isCold ready = false
 isCold (writing u made) = false
 isCold (recovering u made) = false
+isCold (grouping i made) = false
 
 abbrev pub isReady : Job → Bool
 isReady cold = false
 isReady ready = true
 isReady (writing u made) = false
 isReady (recovering u made) = false
+isReady (grouping i made) = false
 
 -- "Write of width w, 2w + 3 stores", "Cleanup, w + 1 stores"
 abbrev pub writeTotal : ℕ → ℕ
@@ -42,15 +47,22 @@ cleanupTotal w = w + 1
 pub record View : Type 0 where
   pub plan : Plan
   pub short : Bool
+  pub payload : List ℕ
   pub job : Job
   pub marker : ℕ → ℕ
 
+-- Ticket 10: "4 also refuses one on an ungrouped device, past its last write or with a payload that no such group gives"
+unfoldable pub badWrite : Plan → List ℕ → ℕ → Bool
+badWrite p payload i = not (p .grouped) || (not (given p payload) || leb (length (writes p payload)) i)
+
 -- "4 a phase whose unit is k or more, or whose stores made are not below the job's total"
-unfoldable pub badJob : Plan → Job → Bool
-badJob p cold = false
-badJob p ready = false
-badJob p (writing u made) = leb (p .count) u || leb (writeTotal (width p u)) made
-badJob p (recovering u made) = leb (p .count) u || leb (cleanupTotal (width p u)) made
+unfoldable pub badJob : Plan → List ℕ → Job → Bool
+badJob p payload cold = false
+badJob p payload ready = false
+badJob p payload (writing u made) = leb (p .count) u || leb (writeTotal (width p u)) made
+badJob p payload (recovering u made) = leb (p .count) u || leb (cleanupTotal (width p u)) made
+badJob p payload (grouping i made) =
+    badWrite p payload i || leb (writeTotal (width p (writeAt p payload i .unit))) made
 
 pub record Refusal : Type 0 where
   pub number : ℕ
@@ -68,14 +80,14 @@ first (r ∷ rest) = cond (r .holds) (r .number) (first rest)
 
 -- "The plan's author (start and every device call)"; Ticket 9: "17 for another page size, tested after 2"
 abbrev pub planRow : Plan → List Refusal
-planRow p = BAD-COUNT when badCount p ∷ BAD-WIDTH when badWidths p (p .count) ∷ BAD-PAGE when badPage p ∷ []
+planRow p = BAD-COUNT when badCount p ∷ BAD-WIDTH when badWidths (p .widths) (p .count) ∷ BAD-PAGE when badPage (p .page) ∷ []
 
 -- what every device call refuses: the plan's, "3 image too short", and 4
-abbrev pub firstFour : Plan → Bool → Job → List Refusal
-firstFour p short j = planRow p ++ (SHORT-IMAGE when short ∷ BAD-JOB when badJob p j ∷ [])
+abbrev pub firstFour : Plan → Bool → List ℕ → Job → List Refusal
+firstFour p short payload j = planRow p ++ (SHORT-IMAGE when short ∷ BAD-JOB when badJob p payload j ∷ [])
 
 abbrev pub deviceRow : View → List Refusal
-deviceRow v = firstFour (v .plan) (v .short) (v .job)
+deviceRow v = firstFour (v .plan) (v .short) (v .payload) (v .job)
 
 -- "5 wrong phase (format and wake outside Cold, begin and read outside Ready, step in Cold or Ready); 6 unit k or more;
 -- 7 payload length not w (begin)"; "8 that unit's marker isn't 1 (begin, read)". "Cut and inspect give 1 to 4."
@@ -110,23 +122,27 @@ readNumber v u =
     (deviceRow v
     ++ (WRONG-PHASE when not (isReady (v .job)) ∷ NO-UNIT when leb (v .plan .count) u ∷ BAD-MARKER when not (eqb (v .marker u) OK) ∷ []))
 
+-- Ticket 10: the record "takes no ordinary begin"; 20 "also for a begin .. on it", "after 6"
 unfoldable pub beginNumber : View → ℕ → ℕ → ℕ
 beginNumber v u size =
     first
     (deviceRow v
     ++ (WRONG-PHASE when not (isReady (v .job))
     ∷ NO-UNIT when leb (v .plan .count) u
+    ∷ UNIT-TAKEN when isRecord (v .plan) u
     ∷ WRONG-SIZE when not (eqb size (width (v .plan) u))
     ∷ BAD-MARKER when not (eqb (v .marker u) OK)
     ∷ []))
 
--- Ticket 7: "15 if the sum exceeds 64 bits, tested after 8; 16 if unit 0's width isn't 8, tested after 5". `held` are unit 0's bytes.
+-- Ticket 7: "15 if the sum exceeds 64 bits, tested after 8; 16 if unit 0's width isn't 8, tested after 5". Ticket 10: 20 "also for a ..
+-- turns ride on it", "after 6". `held` are unit 0's bytes.
 unfoldable pub rideNumber : View → List ℕ → ℕ → ℕ
 rideNumber v held turns =
     first
     (deviceRow v
     ++ (WRONG-PHASE when not (isReady (v .job))
     ∷ NO-TOTAL when not (eqb (width (v .plan) 0) 8)
+    ∷ UNIT-TAKEN when isRecord (v .plan) 0
     ∷ BAD-MARKER when not (eqb (v .marker 0) OK)
     ∷ SUM-TOO-LARGE when ltb 18446744073709551615 (amount held + turns)
     ∷ []))
@@ -140,4 +156,20 @@ totalNumber v u =
     ∷ NO-UNIT when leb (v .plan .count) u
     ∷ BAD-MARKER when not (eqb (v .marker u) OK)
     ∷ NO-TOTAL when not (eqb (width (v .plan) u) 8)
+    ∷ []))
+
+-- Ticket 10: "in Ready only (else 5)"; 19, 20, 21, "all after 6, in this order, and then 8 for the record or a member"
+unfoldable pub dirty : (ℕ → ℕ) → List Write → Bool
+dirty marker [] = false
+dirty marker (x ∷ xs) = not (eqb (marker (x .unit)) OK) || dirty marker xs
+
+unfoldable pub groupNumber : View → List ℕ → ℕ
+groupNumber v g =
+    first
+    (deviceRow v
+    ++ (WRONG-PHASE when not (isReady (v .job))
+    ∷ BAD-GROUP when unsplit (v .plan) g
+    ∷ UNIT-TAKEN when overlaps (v .plan) g
+    ∷ NO-RECORD when narrow (v .plan) g
+    ∷ BAD-MARKER when (not (eqb (v .marker (last (v .plan))) OK) || dirty (v .marker) (members (v .plan) g))
     ∷ []))

@@ -2,15 +2,17 @@
 -- call's arguments. It is proved in proofs/Refuses.antt that each call answers the number that is tested first of those whose
 -- condition holds, and 0 exactly if none does. What a refused call leaves is in specs/Demands.antt.
 use Prim.Native.Nat.{ℕ, _+_, _*_, _≤_, _<_}
-use mathlib.Core.Bool.{cond}
+use mathlib.Core.Bool.{true, false, cond}
 use lib.Dec.{eqb}
 use mathlib.Core.Path.{_≡_}
 use mathlib.Core.List.{List}
 use lib.ListN.{length}
 use Rattle.model.specs.declared.Plan.{Plan}
 use Rattle.model.specs.declared.Direction.{Direction}
-use Rattle.model.specs.declared.Phase.the-variants.{Cold, Ready, Writing, Recovering}
+use Rattle.model.specs.declared.Phase.the-variants.{Cold, Ready, Writing, Recovering, Grouping}
 use Rattle.model.specs.Layout.{marker, width, total}
+use Rattle.model.specs.Groups.{Write}
+use Rattle.model.specs.Records.{IsGroup, Has, IsLast, Overlaps, Narrow, Gives, WriteOf}
 use Rattle.model.specs.Refusals.{readNumber, inspectNumber, totalNumber}
 use Rattle.model.specs.Calls.{Device, view}
 use Rattle.model.specs.Calls as calls
@@ -22,9 +24,11 @@ pub record First (order : ℕ → ℕ) (Applies : ℕ → Type 0) (n : ℕ) : Ty
   pub first : (k : ℕ) → Applies k → (1 ≤ order n) × (order n ≤ order k)
 
 -- "0 is accepted. The lowest number that applies is given." Ticket 9: "17 for another page size, tested after 2; 18 for a cut of other
--- than p bytes, tested after 4". So they stand between 20 and 30, and between 40 and 50.
+-- than p bytes, tested after 4". Ticket 10: 19, 20 and 21 are "all after 6, in this order, and then 8". So they stand between 20 and
+-- 30, between 40 and 50, and between 60 and 70.
 abbrev pub refusalOrder : ℕ → ℕ
-refusalOrder n = cond (eqb n 17) 25 (cond (eqb n 18) 45 (10 * n))
+refusalOrder n =
+    cond (eqb n 17) 25 (cond (eqb n 18) 45 (cond (eqb n 19) 61 (cond (eqb n 20) 62 (cond (eqb n 21) 63 (10 * n)))))
 
 abbrev pub Lowest : (ℕ → Type 0) → ℕ → Type 0
 Lowest Applies n = First refusalOrder Applies n
@@ -37,6 +41,9 @@ pub data BadPlan (p : Plan) : ℕ → Type 0 where
   wide : (u : ℕ) → u < p .count → 256 < width p u → BadPlan p 2
   otherPage : ¬ (p .page ≡ 1) → ¬ (p .page ≡ 4) → ¬ (p .page ≡ 8) → ¬ (p .page ≡ 16) → BadPlan p 17
 
+abbrev pub GoodPlan : Plan → Type 0
+GoodPlan p = (n : ℕ) → ¬ BadPlan p n
+
 -- "The firmware": 3 and 4, which every call with an image has
 pub data BadDevice (d : Device) (image : List ℕ) : ℕ → Type 0 where
   plan : {n : ℕ} → BadPlan (d .plan) n → BadDevice d image n
@@ -47,6 +54,15 @@ pub data BadDevice (d : Device) (image : List ℕ) : ℕ → Type 0 where
   cleaningNoUnit : (u made : ℕ) (way : Direction) → d .phase ≡ Recovering u made way → d .plan .count ≤ u
       → BadDevice d image 4
   cleaningMade : (u made : ℕ) (way : Direction) → d .phase ≡ Recovering u made way → width (d .plan) u + 1 ≤ made
+      → BadDevice d image 4
+  -- Ticket 10: "4 also refuses one on an ungrouped device, past its last write or with a payload that no such group gives"
+  groupingAlone : (i made : ℕ) → d .phase ≡ Grouping i made → d .plan .grouped ≡ false → BadDevice d image 4
+  groupingNone : (i made : ℕ) → GoodPlan (d .plan) → d .phase ≡ Grouping i made
+      → ((g : List ℕ) (ms : List Write) → ¬ Gives (d .plan) (d .payload) g ms) → BadDevice d image 4
+  groupingPast : (i made : ℕ) (g : List ℕ) (ms : List Write) → GoodPlan (d .plan) → d .phase ≡ Grouping i made
+      → Gives (d .plan) (d .payload) g ms → 2 + length ms ≤ i → BadDevice d image 4
+  groupingMade : (i made u : ℕ) (g bytes : List ℕ) (ms : List Write) → GoodPlan (d .plan) → d .phase ≡ Grouping i made
+      → Gives (d .plan) (d .payload) g ms → WriteOf (d .plan) (d .payload) ms i u bytes → 2 * width (d .plan) u + 3 ≤ made
       → BadDevice d image 4
 
 -- "18 for a cut of other than p bytes"
@@ -78,10 +94,11 @@ pub data BadRead (d : Device) (image : List ℕ) (u : ℕ) : ℕ → Type 0 wher
   unit : d .plan .count ≤ u → BadRead d image u 6
   mark : ¬ (at (d .plan) image u marker ≡ 1) → BadRead d image u 8
 
--- "7 payload length not w (begin)"
+-- "7 payload length not w (begin)"; Ticket 10: the group record "takes no ordinary begin"
 pub data BadBegin (d : Device) (image : List ℕ) (u : ℕ) (payload : List ℕ) : ℕ → Type 0 where
   asRead : {n : ℕ} → BadRead d image u n → BadBegin d image u payload n
   size : ¬ (length payload ≡ width (d .plan) u) → BadBegin d image u payload 7
+  theRecord : d .plan .grouped ≡ true → IsLast (d .plan) u → BadBegin d image u payload 20
 
 -- Ticket 7: "15 if the sum exceeds 64 bits, tested after 8; 16 if unit 0's width isn't 8, tested after 5"
 pub data BadRide (d : Device) (image : List ℕ) (turns : ℕ) : ℕ → Type 0 where
@@ -90,9 +107,22 @@ pub data BadRide (d : Device) (image : List ℕ) (turns : ℕ) : ℕ → Type 0 
   otherWidth : ¬ (width (d .plan) 0 ≡ 8) → BadRide d image turns 16
   mark : ¬ (at (d .plan) image 0 marker ≡ 1) → BadRide d image turns 8
   large : 18446744073709551616 ≤ held (d .plan) image 0 + turns → BadRide d image turns 15
+  theRecord : d .plan .grouped ≡ true → IsLast (d .plan) 0 → BadRide d image turns 20
 
 abbrev pub rideOrder : ℕ → ℕ
 rideOrder n = cond (eqb n 16) 55 (refusalOrder n)
+
+-- Ticket 10: "in Ready only (else 5)"; "19 for bytes that don't split into 2 to 4 members with units below k; 20 for a unit twice or the
+-- record itself ..; 21 if there is no record or it is too narrow; .. and then 8 for the record or a member"
+pub data BadGroup (d : Device) (image g : List ℕ) : ℕ → Type 0 where
+  device : {n : ℕ} → BadDevice d image n → BadGroup d image g n
+  phase : ¬ (d .phase ≡ Ready) → BadGroup d image g 5
+  unsplit : ((ms : List Write) → ¬ IsGroup (d .plan) g ms) → BadGroup d image g 19
+  overlaps : (ms : List Write) → IsGroup (d .plan) g ms → Overlaps (d .plan) ms → BadGroup d image g 20
+  narrow : Narrow (d .plan) g → BadGroup d image g 21
+  recordMark : (r : ℕ) → IsLast (d .plan) r → ¬ (at (d .plan) image r marker ≡ 1) → BadGroup d image g 8
+  memberMark : (ms : List Write) (u : ℕ) → IsGroup (d .plan) g ms → Has u ms → ¬ (at (d .plan) image u marker ≡ 1)
+      → BadGroup d image g 8
 
 -- a unit's total as a number: refused as read is, and last where the unit is not eight bytes wide
 pub data BadTotal (d : Device) (image : List ℕ) (u : ℕ) : ℕ → Type 0 where
@@ -105,6 +135,7 @@ pub record Refuses (d : Device) (image : List ℕ) : Type 0 where
   pub format : Lowest (BadFormat d image) (calls.format d image .number)
   pub begin : (u : ℕ) (payload : List ℕ) → Lowest (BadBegin d image u payload) (calls.begin d image u payload .number)
   pub ride : (turns : ℕ) → First rideOrder (BadRide d image turns) (calls.ride d image turns .number)
+  pub group : (g : List ℕ) → Lowest (BadGroup d image g) (calls.group d image g .number)
   pub step : Lowest (BadStep d image) (calls.step d image .number)
   pub wake : Lowest (BadWake d image) (calls.wake d image .number)
   pub cut : (bytes : List ℕ) → Lowest (BadCut d image bytes) (calls.cut d image bytes .number)

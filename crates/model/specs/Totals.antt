@@ -11,31 +11,35 @@ use Rattle.model.specs.declared.Plan.{Plan}
 use Rattle.model.specs.Marker.{End, completed, tornBy}
 use Rattle.model.specs.Layout.{Copy, width, copyOf}
 use Rattle.model.specs.Turns.{amount}
-use Rattle.model.specs.Refusals.{Job, cold, ready, writing, recovering}
+use Rattle.model.specs.Groups.{write, among, members}
+use Rattle.model.specs.Refusals.{Job, cold, ready, writing, recovering, grouping}
 use Rattle.model.specs.Calls.{Device, Outcome}
 use Rattle.model.specs.Calls as calls
-use Rattle.model.specs.Ledger.{Ledger, Call, begin, ride, step, cut, wake, opening, told, passesAt, fed}
-use Rattle.model.specs.PowerCut.{run, answers, closedBy, Closes, repair, Repairs}
+use Rattle.model.specs.Ledger.{Ledger, Call, begin, ride, group, step, cut, wake, opening, told, passesAt, fed}
+use Rattle.model.specs.PowerCut.{run, answers, closedBy, Closes, repair, Takes}
 
 -- ---- "rides whose write passed"
--- the write under way passes at its next store, which ends so
+-- the write under way, if it is not a group's, passes at its next store, which ends so
 abbrev pub passesNext : Plan → Ledger → End → Job → Bool
 passesNext p l e cold = false
 passesNext p l e ready = false
-passesNext p l e (writing u made) = passesAt p l u (suc made) e
+passesNext p l e (writing u made) = passesAt p l (write u (l .payload)) (suc made) e
 passesNext p l e (recovering u made) = false
+passesNext p l e (grouping i made) = false
 
 abbrev pub passesBy : Plan → Ledger → Call → Bool
 passesBy p l (begin u payload) = false
 passesBy p l (ride turns) = false
+passesBy p l (group g) = false
 passesBy p l step = passesNext p l completed (l .job)
 passesBy p l (cut bytes) = passesNext p l (tornBy bytes) (l .job)
 passesBy p l wake = false
 
--- the turns that are due once an accepted call is made: those of a ride; a begin's write has none
+-- the turns that are due once an accepted call is made: those of a ride; a begin's write has none, nor a group's
 abbrev pub dueAfter : Call → List ℕ → List ℕ
 dueAfter (begin u payload) due = []
 dueAfter (ride turns) due = turns ∷ []
+dueAfter (group g) due = []
 dueAfter step due = due
 dueAfter (cut bytes) due = due
 dueAfter wake due = due
@@ -63,19 +67,20 @@ sum (n ∷ ns) = n + sum ns
 abbrev pub turnsOver : Plan → List Call → ℕ
 turnsOver p cs = sum (passed p (opening p) [] cs)
 
--- "other units may be written in that list, unit 0 only through rides": no begin of unit u
-abbrev pub NoBegin : ℕ → List Call → Type 0
-NoBegin u [] = Unit
-NoBegin u (begin v payload ∷ cs) = ¬ (v ≡ u) × NoBegin u cs
-NoBegin u (ride turns ∷ cs) = NoBegin u cs
-NoBegin u (step ∷ cs) = NoBegin u cs
-NoBegin u (cut bytes ∷ cs) = NoBegin u cs
-NoBegin u (wake ∷ cs) = NoBegin u cs
+-- "other units may be written in that list, unit 0 only through rides": no begin of unit u, and no group that has it
+abbrev pub OnlyRides : Plan → ℕ → List Call → Type 0
+OnlyRides p u [] = Unit
+OnlyRides p u (begin v payload ∷ cs) = ¬ (v ≡ u) × OnlyRides p u cs
+OnlyRides p u (ride turns ∷ cs) = OnlyRides p u cs
+OnlyRides p u (group g ∷ cs) = (among u (members p g) ≡ false) × OnlyRides p u cs
+OnlyRides p u (step ∷ cs) = OnlyRides p u cs
+OnlyRides p u (cut bytes ∷ cs) = OnlyRides p u cs
+OnlyRides p u (wake ∷ cs) = OnlyRides p u cs
 
 -- ---- "after wake and uncut steps": `cutOff` is what the closing cut left, and the steps are those of its repair.
 pub record Totalled (p : Plan) (cutOff : Outcome) (turns : ℕ) : Type 0 where
   pub steps : ℕ
-  pub needed : Repairs p (cutOff .image) steps
+  pub needed : Takes p cutOff steps
   pub accepted : answers (repair steps) cutOff ≡ replicate (1 + steps) 0
   -- "taken from copy A"; copy B has the same
   pub holds : (c : Copy) → amount (copyOf p (run (repair steps) cutOff .image) 0 c) ≡ turns
@@ -91,5 +96,5 @@ TurnsAddUp =
     → calls.format d image .number ≡ 0
     → (cs : List Call) (bytes : List ℕ)
     → Closes bytes cs (calls.format d image)
-    → NoBegin 0 cs
+    → OnlyRides (d .plan) 0 cs
     → Totalled (d .plan) (run (closedBy bytes cs) (calls.format d image)) (turnsOver (d .plan) (closedBy bytes cs))

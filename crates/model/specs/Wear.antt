@@ -8,11 +8,12 @@ use mathlib.Core.Path.{_≡_}
 use mathlib.Core.List.{List, [], _∷_}
 use Rattle.model.specs.declared.Plan.{Plan}
 use Rattle.model.specs.Plans.{width}
-use Rattle.model.specs.Refusals.{Job, cold, ready, writing, recovering}
+use Rattle.model.specs.Groups.{last, members}
+use Rattle.model.specs.Refusals.{Job, cold, ready, writing, recovering, grouping}
 use Rattle.model.specs.Calls.{Device}
 use Rattle.model.specs.Calls as calls
-use Rattle.model.specs.Ledger.{Ledger, Call, begin, ride, step, cut, wake, opening, told, fed}
-use Rattle.model.specs.PowerCut.{run}
+use Rattle.model.specs.Ledger.{Ledger, Call, begin, ride, group, step, cut, wake, opening, told, accepted, fed}
+use Rattle.model.specs.PowerCut.{run, storesOf, added}
 
 -- ---- A sum over the accepted calls of a list. What a call adds is asked with the ledger before it.
 abbrev pub ifAccepted : ℕ → ℕ → ℕ
@@ -27,26 +28,30 @@ overAccepted each p l (c ∷ cs) = ifAccepted (told p l c) (each l c) + overAcce
 abbrev pub completes : Ledger → Call → ℕ
 completes l (begin u payload) = 0
 completes l (ride turns) = 0
+completes l (group g) = 0
 completes l step = 1
 completes l (cut bytes) = 0
 completes l wake = 0
 
--- the torn ones, which the count leaves out: a cut tears a store in Writing and Recovering
+-- the torn ones, which the count leaves out: a cut tears a store in Writing, Recovering and a group phase
 abbrev pub tornAt : Job → ℕ
 tornAt cold = 0
 tornAt ready = 0
 tornAt (writing u made) = 1
 tornAt (recovering u made) = 1
+tornAt (grouping i made) = 1
 
 abbrev pub tears : Ledger → Call → ℕ
 tears l (begin u payload) = 0
 tears l (ride turns) = 0
+tears l (group g) = 0
 tears l step = 0
 tears l (cut bytes) = tornAt (l .job)
 tears l wake = 0
 
 -- ---- The ceiling: "the sum of 2w + 3 over the accepted begins, plus, for each cut, 1 plus the largest width of the plan".
--- A ride is a begin of unit 0. Ticket 9: "accepted cuts only".
+-- A ride is a begin of unit 0. Ticket 9: "accepted cuts only". Ticket 10: "for each accepted group, its members' writes and two of the
+-- record, and for each cut the steps that a record standing after cleanup adds": a cleanup brings back what the ledger has as written.
 -- the largest of the first n widths
 unfoldable pub widest : Plan → ℕ → ℕ
 widest p zero = 0
@@ -55,8 +60,9 @@ widest p (suc n) = max (widest p n) (width p n)
 abbrev pub allows : Plan → Ledger → Call → ℕ
 allows p l (begin u payload) = 2 * width p u + 3
 allows p l (ride turns) = 2 * width p 0 + 3
+allows p l (group g) = storesOf p (members p g) + 2 * (2 * width p (last p) + 3)
 allows p l step = 0
-allows p l (cut bytes) = 1 + widest p (p .count)
+allows p l (cut bytes) = 1 + widest p (p .count) + added p (accepted p l (cut bytes) .written (last p))
 allows p l wake = 0
 
 -- ---- Of a list of calls from a formatted device

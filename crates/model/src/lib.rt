@@ -3,11 +3,12 @@
 pub mod refusals;
 
 // Units numbered from 0, each with its width in bytes. Widths past `count` are not looked at. The chip stores by pages of `page` bytes:
-// 1, 4, 8 or 16.
+// 1, 4, 8 or 16. The last unit of a grouped device is the group record.
 pub struct Plan {
     pub count: u16,
     pub widths: [u16; 8],
     pub page: u16,
+    pub grouped: bool,
 }
 
 // The way a cleanup copies.
@@ -16,7 +17,7 @@ pub enum Direction {
     BToA,
 }
 
-// What the device is at; `made` counts the stores of the job that are made.
+// What the device is at; `made` counts the stores of the job that are made, of a group those of the write that it is at.
 pub enum Phase {
     Cold,
     Ready,
@@ -28,6 +29,10 @@ pub enum Phase {
         unit: u16,
         made: u16,
         direction: Direction,
+    },
+    Grouping {
+        write: u16,
+        made: u16,
     },
 }
 

@@ -53,3 +53,12 @@ pub const BAD_PAGE: u16 = 17;
 
 // A cut has other than a page's number of bytes.
 pub const WRONG_TEAR: u16 = 18;
+
+// Bytes that aren't two to four members of a group.
+pub const BAD_GROUP: u16 = 19;
+
+// A unit twice in a group, or the group record where another unit is asked for.
+pub const UNIT_TAKEN: u16 = 20;
+
+// There is no group record, or it is too narrow.
+pub const NO_RECORD: u16 = 21;

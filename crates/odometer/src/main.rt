@@ -42,6 +42,7 @@ fn formatted(image: &mut [u8]) -> Device {
         count: 2,
         widths: [8, 1, 0, 0, 0, 0, 0, 0],
         page: 1,
+        grouped: false,
     };
     let started = Device::start(plan);
     let ready = started.device.format(&mut image[..]);

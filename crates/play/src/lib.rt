@@ -248,6 +248,7 @@ fn run(text: &[u8], image: &mut [u8], out: &mut [u8]) -> usize
         count: count as u16,
         widths: widths,
         page: page,
+        grouped: false,
     };
     play_plan(text, end + 1, plan, image, out)
 }

@@ -6,7 +6,7 @@ use native.Mathlib.Omega.{arith}
 use native.Mathlib.Nat.{div-add-mod'}
 use lib.ListN.{length, length-append}
 use lib.Seq.{take-all, take-append-seam, drop-append-seam}
-use Rattle.model.specs.Ledger.{Call, begin, ride, step, cut, wake}
+use Rattle.model.specs.Ledger.{Call, begin, ride, group, step, cut, wake}
 use Rattle.model.specs.Turns.{inBytes}
 use Rattle.model.proofs.TurnLaws.{bytes-size, bytes-amount}
 use Rattle.recovery.specs.Encoding.{turnsIn, callOf, callsFrom, callsOf, encoded, bytesOfCall, bytesOf, Bytes, Handed, Encodes}
@@ -45,6 +45,7 @@ decodes (step ∷ cs) h = ahead step cs (decoded 0 0 []) (decodes cs h)
 decodes (begin u payload ∷ cs) h = ahead (begin u payload) cs (decoded 1 u payload) (decodes cs (h .3))
 decodes (cut bytes ∷ cs) h = ahead (cut bytes) cs (decoded 2 0 bytes) (decodes cs (h .2))
 decodes (wake ∷ cs) h = ahead wake cs (decoded 3 0 []) (decodes cs h)
+decodes (group g ∷ cs) h = ahead (group g) cs (decoded 5 0 g) (decodes cs (h .2))
 decodes (ride turns ∷ cs) h = ahead (ride turns) cs (ride-decodes turns (h .0)) (decodes cs (h .1))
 
 -- and they are bytes
@@ -67,6 +68,7 @@ in-bytes [] h = tt
 in-bytes (step ∷ cs) h = framed 0 0 [] (bytesOf cs) (omega arith) (omega arith) (omega arith) tt (in-bytes cs h)
 in-bytes (begin u payload ∷ cs) h = framed 1 u payload (bytesOf cs) (omega arith) (h .0) (h .1) (h .2) (in-bytes cs (h .3))
 in-bytes (cut bytes ∷ cs) h = framed 2 0 bytes (bytesOf cs) (omega arith) (omega arith) (h .0) (h .1) (in-bytes cs (h .2))
+in-bytes (group g ∷ cs) h = framed 5 0 g (bytesOf cs) (omega arith) (omega arith) (h .0) (h .1) (in-bytes cs (h .2))
 in-bytes (ride turns ∷ cs) h =
     framed 4 0 (inBytes 8 turns) (bytesOf cs) (omega arith) (omega arith) (omega (arith, bytes-size 8 turns)) (all-bytes 8 turns) (in-bytes cs (h .1))
 in-bytes (wake ∷ cs) h = framed 3 0 [] (bytesOf cs) (omega arith) (omega arith) (omega arith) tt (in-bytes cs h)

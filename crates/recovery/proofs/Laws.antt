@@ -8,7 +8,7 @@ use lib.Seq.{drop-length, drop-cons, drop-drop, getD-drop}
 use borrow.Author.Tests.{le-leb, lt-leb}
 use Rattle.model.proofs.Compare.{equal, differ, same}
 use Rattle.model.specs.Calls.{Device, Outcome, outcome}
-use Rattle.model.specs.Ledger.{Call, begin, ride, step, cut, wake}
+use Rattle.model.specs.Ledger.{Call, begin, ride, group, step, cut, wake}
 use Rattle.model.specs.PowerCut.{call, run}
 use Rattle.store.specs.declared.Answer.{Answer}
 use Rattle.store.specs.Modelled.{modelled, Gives}
@@ -20,6 +20,7 @@ pub same-call : (c : Call) (n : ℕ) (d : Device) (image : List ℕ) → call c 
 unfolding call
 same-call (begin u payload) n d image = refl
 same-call (ride turns) n d image = refl
+same-call (group g) n d image = refl
 same-call step n d image = refl
 same-call (cut bytes) n d image = refl
 same-call wake n d image = refl

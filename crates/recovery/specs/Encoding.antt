@@ -1,8 +1,9 @@
 -- Lists of calls as bytes. A call is
---   a byte for its kind: 1 begin, 2 cut, 3 wake, 4 ride, any other step;
+--   a byte for its kind: 1 begin, 2 cut, 3 wake, 4 ride, 5 group, any other step;
 --   two bytes, the high one first: the unit, which only a begin looks at;
 --   two bytes, the high one first: how many bytes of its own follow;
---   and these: a begin's payload; the bytes of a cut; a ride's turns are the first eight, lowest byte first, or 0 if there are fewer.
+--   and these: a begin's payload; the bytes of a cut or of a group; a ride's turns are the first eight, lowest byte first, or 0 if there
+--   are fewer.
 -- So any bytes are a list of calls. Those at the end that are too few for a call are none.
 use Prim.Native.Nat.{ℕ, zero, suc, _+_, _*_, _/_, _%_, _<_}
 use mathlib.Core.Path.{_≡_}
@@ -11,7 +12,7 @@ use mathlib.Core.Bool.{cond}
 use lib.Dec.{eqb, ltb, leb}
 use lib.ListN.{length, getD, take, drop}
 use Rattle.model.specs.Turns.{amount, inBytes}
-use Rattle.model.specs.Ledger.{Call, begin, ride, step, cut, wake}
+use Rattle.model.specs.Ledger.{Call, begin, ride, group, step, cut, wake}
 
 abbrev pub two : ℕ → ℕ → ℕ
 two high low = high * 256 + low
@@ -22,7 +23,7 @@ turnsIn own = cond (ltb (length own) 8) 0 (amount (take 8 own))
 unfoldable pub callOf : ℕ → ℕ → List ℕ → Call
 callOf kind unit own =
     cond (eqb kind 1) (begin unit own)
-    (cond (eqb kind 2) (cut own) (cond (eqb kind 3) wake (cond (eqb kind 4) (ride (turnsIn own)) step)))
+    (cond (eqb kind 2) (cut own) (cond (eqb kind 3) wake (cond (eqb kind 4) (ride (turnsIn own)) (cond (eqb kind 5) (group own) step))))
 
 -- the unit and the size, in what follows the kind
 abbrev pub unitIn : List ℕ → ℕ
@@ -53,6 +54,7 @@ bytesOfCall (begin u payload) = encoded 1 u payload
 bytesOfCall (cut bytes) = encoded 2 0 bytes
 bytesOfCall wake = encoded 3 0 []
 bytesOfCall (ride turns) = encoded 4 0 (inBytes 8 turns)
+bytesOfCall (group g) = encoded 5 0 g
 
 unfoldable pub bytesOf : List Call → List ℕ
 bytesOf [] = []
@@ -67,6 +69,7 @@ abbrev pub Handed : List Call → Type 0
 Handed [] = Unit
 Handed (begin u payload ∷ cs) = (u < 65536) × (length payload < 65536) × Bytes payload × Handed cs
 Handed (cut bytes ∷ cs) = (length bytes < 65536) × Bytes bytes × Handed cs
+Handed (group g ∷ cs) = (length g < 65536) × Bytes g × Handed cs
 Handed (ride turns ∷ cs) = (turns < 18446744073709551616) × Handed cs
 Handed (step ∷ cs) = Handed cs
 Handed (wake ∷ cs) = Handed cs

@@ -4,13 +4,11 @@ ghost use mathlib.Core.Path.{_≡_};
 ghost use Prim.Native.Nat.{ℕ, _+_, _<_};
 ghost use lib.ListN.{length, getD};
 ghost use Rattle.model.specs.Calls.{outcome, asStarted, start, format, wake};
-ghost use Rattle.model.specs.PowerCut.{call, run, closedBy, repair, Repairs};
+ghost use Rattle.model.specs.PowerCut.{call, run, closedBy, repair};
 ghost use Rattle.store.specs.Modelled.{modelled, Gives};
 ghost use Rattle.recovery.specs.Encoding.{two, turnsIn, callOf, callsOf};
 ghost use Rattle.recovery.specs.Outage.{Fits, closed, Restored};
 use amount::amount_of;
-use layout::width_of;
-use model::Phase;
 use model::Plan;
 use store::Answer;
 use store::Device;
@@ -22,7 +20,7 @@ fn number_of(high: u8, low: u8) -> u16
     (high as u16) * 256 + (low as u16)
 }
 
-fn number_at(bytes: &[u8], at: usize) -> u16
+pub fn number_at(bytes: &[u8], at: usize) -> u16
     requires { ⌜ at + 1 < length (now bytes) ⌝ }
     ensures { λ r. ⌜ r ≡ two (getD (now (bytes .entry)) at 0) (getD (now (bytes .entry)) (at + 1) 0) ⌝ }
 {
@@ -40,7 +38,7 @@ fn turns_of(bytes: &[u8]) -> u64
 }
 
 // One call of the list, with its own bytes.
-fn call(device: Device, image: &mut [u8], kind: u8, unit: u16, own: &[u8]) -> Answer
+pub fn call(device: Device, image: &mut [u8], kind: u8, unit: u16, own: &[u8]) -> Answer
     ensures { λ r. ⌜ Gives r (now (image .exit))
         (call (callOf kind unit (now (own .entry))) (outcome 0 (modelled device) (now (image .entry)))) ⌝ }
 {
@@ -55,6 +53,9 @@ fn call(device: Device, image: &mut [u8], kind: u8, unit: u16, own: &[u8]) -> An
     }
     if kind == 4 {
         return device.ride(image, turns_of(own));
+    }
+    if kind == 5 {
+        return device.group(image, own);
     }
     device.step(image)
 }
@@ -100,33 +101,21 @@ fn until_cut(plan: Plan, image: &mut [u8], calls: &[u8], page: &[u8])
     last.device.cut(image, page);
 }
 
-// The console after it: a start, a wake, and the steps of the repair, which copy a unit and then set its marker.
+// More than the longest repair takes: a cleanup of 257 steps, and five writes of 515.
+const ENOUGH: u16 = 65535;
+
+// The console after it: a start, a wake, and steps until one is refused.
 fn come_back(plan: Plan, image: &mut [u8]) -> Answer
-    ensures { λ r. ⌜ ((n : ℕ) → start plan ≡ record { number = 0; device = asStarted plan }
-        → wake (asStarted plan) (now (image .entry)) .number ≡ 0 → Repairs plan (now (image .entry)) n
-        → Gives r (now (image .exit)) (run (repair n) (outcome 0 (asStarted plan) (now (image .entry))))) ⌝ }
+    ensures { λ r. ⌜ (start plan ≡ record { number = 0; device = asStarted plan } → wake (asStarted plan) (now (image .entry)) .number ≡ 0
+        → Gives r (now (image .exit)) (run (repair 65535) (outcome 0 (asStarted plan) (now (image .entry))))) ⌝ }
 {
     let started = Device::start(plan);
-    if started.number != 0 {
-        return started;
-    }
     let woken = started.device.wake(image);
-    let next = woken.device;
-    let phase = next.phase;
-    let Phase::Recovering {
-        unit,
-        made: _,
-        direction: _,
-    } = phase
-    else {
-        return woken;
-    };
-    let copied = next.steps(image, width_of(plan, unit));
-    copied.device.step(image)
+    woken.device.steps(image, ENOUGH)
 }
 
-// What a console lives through: start, format, any calls, and a power cut that leaves these bytes in a page; then start, wake and the
-// exact number of steps. The answer is the last step's, or the wake's if there is none to make.
+// What a console lives through: start, format, any calls, and a power cut that leaves these bytes in a page; then start, wake, and
+// steps until one is refused, since the device is Ready: the exact number of steps, which the count of stores tells.
 pub fn outage(plan: Plan, image: &mut [u8], calls: &[u8], page: &[u8]) -> Answer
     ensures { λ r. ⌜ (Fits plan (now (image .entry)) → length (now (page .entry)) ≡ plan .page
         → Restored plan (now (image .entry)) (closed (now (calls .entry)) (now (page .entry))) r (now (image .exit))) ⌝ }

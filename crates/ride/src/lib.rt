@@ -9,6 +9,7 @@ ghost use Rattle.model.specs.Calls.{viewOf, padded};
 use amount::amount_of;
 use amount::bytes_of;
 use format::zero_filled;
+use group::is_record;
 use layout::width_of;
 use marker::Marker;
 use model::Phase;
@@ -16,22 +17,26 @@ use model::Plan;
 use model::refusals::BAD_MARKER;
 use model::refusals::NO_TOTAL;
 use model::refusals::SUM_TOO_LARGE;
+use model::refusals::UNIT_TAKEN;
 use refusal::read_number;
 use refusal::ready_number;
 
 // The largest total.
 const MOST: u64 = 18446744073709551615;
 
-// Refusals 1 to 5, 16, 8 and 15 of a ride, in this order.
-pub fn ride_number(plan: Plan, phase: Phase, image: &[u8], turns: u64) -> u16
-    ensures { λ r. ⌜ r ≡ rideNumber (viewOf plan phase (now (image .entry))) (copyOf plan (now (image .entry)) 0 copyA) turns ⌝ }
+// Refusals 1 to 5, 16, 20, 8 and 15 of a ride, in this order.
+pub fn ride_number(plan: Plan, payload: &[u8; 256], phase: Phase, image: &[u8], turns: u64) -> u16
+    ensures { λ r. ⌜ r ≡ rideNumber (viewOf plan (now (payload .entry)) phase (now (image .entry))) (copyOf plan (now (image .entry)) 0 copyA) turns ⌝ }
 {
-    let number = ready_number(plan, phase, image.len());
+    let number = ready_number(plan, payload, phase, image.len());
     if number != 0 {
         return number;
     }
     if width_of(plan, 0) != 8 {
         return NO_TOTAL;
+    }
+    if is_record(plan, 0) {
+        return UNIT_TAKEN;
     }
     if image[0] != Marker::OK {
         return BAD_MARKER;
@@ -56,10 +61,10 @@ pub fn ridden(page: u16, image: &[u8], turns: u64) -> [u8; 256]
 }
 
 // Refusals of a unit's total: read's, and then 16.
-pub fn total_number(plan: Plan, phase: Phase, image: &[u8], unit: u16) -> u16
-    ensures { λ r. ⌜ r ≡ totalNumber (viewOf plan phase (now (image .entry))) unit ⌝ }
+pub fn total_number(plan: Plan, payload: &[u8; 256], phase: Phase, image: &[u8], unit: u16) -> u16
+    ensures { λ r. ⌜ r ≡ totalNumber (viewOf plan (now (payload .entry)) phase (now (image .entry))) unit ⌝ }
 {
-    let number = read_number(plan, phase, image, unit);
+    let number = read_number(plan, payload, phase, image, unit);
     if number != 0 {
         return number;
     }

@@ -1,11 +1,11 @@
 -- What the calls' proofs share: a refused call and an accepted one, against their definitions.
-use Prim.Native.Nat.{ℕ, zero, suc, _+_, _-_, _≤_}
+use Prim.Native.Nat.{ℕ, zero, suc, _≤_, _<_}
 use mathlib.Core.Path.{_≡_, refl, ap, ap₂, sym, _∙_}
 use mathlib.Core.List.{List, [], _++_}
 use mathlib.Core.Bool.{not}
 use native.Mathlib.Omega.{arith}
 use lib.Dec.{leb}
-use lib.ListN.{length, take, drop}
+use lib.ListN.{length}
 use borrow.Author.Tests.{leb-false}
 use Rattle.store.specs.declared.Device.{Device}
 use Rattle.store.specs.declared.Answer.{Answer}
@@ -13,12 +13,13 @@ use Rattle.store.specs.Modelled.{modelled, blanked, Gives, Starts}
 use Rattle.model.specs.declared.Plan.{Plan}
 use Rattle.model.specs.declared.Inspection.the-variants.{Refused}
 use Rattle.model.specs.declared.Phase.{Phase}
-use Rattle.model.specs.declared.Phase.the-variants.{Cold, Writing}
-use Rattle.model.specs.Layout.{copyA, width, copyOf}
-use Rattle.model.specs.Refusals.{isReady, first, deviceRow, inspectNumber, readNumber, beginNumber, cutNumber}
+use Rattle.model.specs.declared.Phase.the-variants.{Cold, Writing, Grouping}
+use Rattle.model.specs.Refusals.{isReady, first, deviceRow, inspectNumber, readNumber, beginNumber, groupNumber, wakeNumber, cutNumber}
 use Rattle.model.specs.Marker.{tornBy}
 use Rattle.model.specs.Stores.{stored}
-use Rattle.model.specs.Calls.{jobOf, viewOf, view, zeroPayload, padded, asBegun, begin, cut, next, imageAfter, Outcome, outcome, unlessRefused, noPlan, startAnswer, partUnlessRefused, inspection, inspect}
+use Rattle.model.specs.Calls.{jobOf, viewOf, view, zeroPayload, padded, asBegun, asGrouped, asWoken, begin, group, wake, cleanupFrom, resumed, reloaded, cut, next, imageAfter, Outcome, outcome, unlessRefused, noPlan, startAnswer, partUnlessRefused, inspection, inspect}
+use Rattle.model.specs.Groups.{payloadOf}
+use Rattle.model.proofs.GroupLaws.{group-says, wide-of, last-lt}
 use Rattle.model.proofs.RefusalLaws.{first-past, past, begin-says, width-bounds}
 use Rattle.lookup.specs.declared.Span.{Span}
 use Rattle.lookup.specs.Spans.{spanOf, Spans, Sound}
@@ -41,7 +42,7 @@ accepted r left d image k (suc n) o e z g = absurd (omega arith)
 
 -- ---- begin and cut, over variables: their definitions are long
 module _ (d : Device) (image : List ℕ) (k : ℕ) where
-  module _ (u : ℕ) (payload : List ℕ) (e : k ≡ beginNumber (viewOf (d .plan) (d .phase) image) u (length payload)) where
+  module _ (u : ℕ) (payload : List ℕ) (e : k ≡ beginNumber (viewOf (d .plan) (d .payload) (d .phase) image) u (length payload)) where
     pub begin-refused : ¬ (k ≡ 0) → Gives (record { number = k; device = d }) image (begin (modelled d) image u payload)
     unfolding begin
     begin-refused h = refused d image k _ _ e h
@@ -54,7 +55,7 @@ module _ (d : Device) (image : List ℕ) (k : ℕ) where
         accepted _ image d image k _ _ e z
         (record { number = refl; device = ap (λ (t : List ℕ). asBegun u t (modelled d)) is; image = refl })
 
-  module _ (page : List ℕ) (e : k ≡ cutNumber (viewOf (d .plan) (d .phase) image) (length page)) where
+  module _ (page : List ℕ) (e : k ≡ cutNumber (viewOf (d .plan) (d .payload) (d .phase) image) (length page)) where
     pub cut-refused : ¬ (k ≡ 0) → Gives (record { number = k; device = d }) image (cut (modelled d) image page)
     unfolding cut
     cut-refused h = refused d image k _ _ e h
@@ -64,6 +65,43 @@ module _ (d : Device) (image : List ℕ) (k : ℕ) where
         (cut (modelled d) image page)
     unfolding cut imageAfter
     cut-accepted z after is = accepted _ after d image k _ _ e z (record { number = refl; device = refl; image = is })
+
+-- ---- a group, and where a wake goes on
+module _ (d : Device) (image : List ℕ) {k : ℕ} where
+  module _ (bytes : List ℕ) (e : k ≡ groupNumber (viewOf (d .plan) (d .payload) (d .phase) image) bytes) where
+    pub group-refused : ¬ (k ≡ 0) → Gives (record { number = k; device = d }) image (group (modelled d) image bytes)
+    unfolding group
+    group-refused h = refused d image k _ _ e h
+
+    -- the record holds the count and the group
+    pub group-narrow : k ≡ 0 → length bytes < 256
+    unfolding groupNumber
+    group-narrow z =
+        let says = group-says (viewOf (d .plan) (d .payload) (d .phase) image) bytes (sym e ∙ z) in
+        let r = room (d .plan) (d .payload) (d .phase) image (live (d .plan) (d .payload) (d .phase) image k _ e z) in
+        omega (arith, wide-of (d .plan) bytes (says .wide) .1, width-bounds (d .plan) (r .ok) _ (last-lt (d .plan) (r .ok)) .1)
+
+    pub group-accepted : k ≡ 0 → (xs : List ℕ) → xs ≡ payloadOf (d .plan) bytes
+        → Gives (record { number = 0; device = record { plan = d .plan; payload = xs; phase = Grouping 0 0; stores = d .stores } }) image
+        (group (modelled d) image bytes)
+    unfolding group
+    group-accepted z xs is =
+        accepted _ image d image k _ _ e z
+        (record { number = refl; device = ap (λ (t : List ℕ). asGrouped t (modelled d)) is; image = refl })
+
+  pub wake-accepted : k ≡ wakeNumber (viewOf (d .plan) (d .payload) (d .phase) image) → k ≡ 0 → {found phase : Phase} {held : List ℕ}
+      → found ≡ cleanupFrom (d .plan) image 0 → phase ≡ resumed (d .plan) image found → held ≡ reloaded (d .plan) image found (d .payload)
+      → Gives (record { number = 0; device = record { plan = d .plan; payload = held; phase = phase; stores = d .stores } }) image
+      (wake (modelled d) image)
+  unfolding wake
+  wake-accepted e z {found} {phase} {held} f r t =
+      accepted _ image d image k _ _ e z
+      (record {
+        number = refl;
+        device = ap₂ (λ (x : Phase) (h : List ℕ). asWoken x h (modelled d)) (r ∙ ap (resumed (d .plan) image) f)
+            (t ∙ ap (λ (x : Phase). reloaded (d .plan) image x (d .payload)) f);
+        image = refl;
+      })
 
 pub gives-as : {r : Answer} {left : List ℕ} {o o′ : Outcome} → o ≡ o′ → Gives r left o → Gives r left o′
 gives-as e g = rw e at g
@@ -85,16 +123,16 @@ pub record Looked (p : Plan) (u n : ℕ) (q : Span) : Type 0 where
   pub inside : q .end ≤ n
 
 -- ---- what a device and its image have
-module _ (p : Plan) (phase : Phase) (image : List ℕ) where
+module _ (p : Plan) (held : List ℕ) (phase : Phase) (image : List ℕ) where
   -- the unit of an accepted read, looked up
-  pub read-looks : (k u : ℕ) → k ≡ readNumber (viewOf p phase image) u → k ≡ 0 → (q : Span) → Spans p u (length image) q
+  pub read-looks : (k u : ℕ) → k ≡ readNumber (viewOf p held phase image) u → k ≡ 0 → (q : Span) → Spans p u (length image) q
       → Looked p u (length image) q
   unfolding readNumber
   read-looks k u e z q s =
-      let n : first (deviceRow (viewOf p phase image) ++ _) ≡ 0 = sym e ∙ z in
-      let h₅ = first-past 4 (not (isReady (jobOf phase))) _ (past (viewOf p phase image) _ n .more) in
+      let n : first (deviceRow (viewOf p held phase image) ++ _) ≡ 0 = sym e ∙ z in
+      let h₅ = first-past 4 (not (isReady (jobOf phase))) _ (past (viewOf p held phase image) _ n .more) in
       let h = leb-false (p .count) u (first-past 5 (leb (p .count) u) _ (h₅ .1) .0) in
-      let r = room p phase image (live p phase image k _ e z) in
+      let r = room p held phase image (live p held phase image k _ e z) in
       let is = s .is (looked-up p (r .ok) u h (length image) q (r .long) s) in
       record {
         is = is;
@@ -102,21 +140,13 @@ module _ (p : Plan) (phase : Phase) (image : List ℕ) where
         inside = span-inside p (r .ok) u h (length image) q (r .long) is;
       }
 
-  pub begin-narrow : (k u : ℕ) (payload : List ℕ) → k ≡ beginNumber (viewOf p phase image) u (length payload) → k ≡ 0
+  pub begin-narrow : (k u : ℕ) (payload : List ℕ) → k ≡ beginNumber (viewOf p held phase image) u (length payload) → k ≡ 0
       → length payload ≤ 256
   unfolding beginNumber
   begin-narrow k u payload e z =
-      let began = begin-says (viewOf p phase image) u (length payload) (sym e ∙ z) in
-      let r = room p phase image (live p phase image k _ e z) in
+      let began = begin-says (viewOf p held phase image) u (length payload) (sym e ∙ z) in
+      let r = room p held phase image (live p held phase image k _ e z) in
       omega (arith, began .size, width-bounds p (r .ok) u (began .unit) .1)
-
-  -- the part that read hands out
-  pub copy-part : (u : ℕ) (q : Span) → q ≡ spanOf p u
-      → take ((q .base + q .a + q .width) - (q .base + q .a)) (drop (q .base + q .a) image) ≡ copyOf p image u copyA
-  unfolding copyOf
-  copy-part u q is =
-      let size : (q .base + q .a + q .width) - (q .base + q .a) ≡ width p u = omega (arith, ap (λ (t : Span). t .width) is) in
-      ap₂ (λ (n i : ℕ). take n (drop i image)) size (ap (λ (t : Span). t .base + t .a) is)
 
 -- ---- start: the code's device is that of the plan none, which is all zeros, or of the plan given
 pub start-refused : (p : Plan) (d : Device) (k n : ℕ) → k ≡ n → ¬ (k ≡ 0)

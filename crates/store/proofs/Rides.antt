@@ -22,13 +22,13 @@ use Rattle.ride.proofs.Laws.{total-part, total-says}
 use Rattle.store.proofs.Laws.{refused, accepted, part-shown}
 
 module _ (d : Device) (image : List ℕ) (turns k : ℕ)
-    (e : k ≡ rideNumber (viewOf (d .plan) (d .phase) image) (copyOf (d .plan) image 0 copyA) turns) where
+    (e : k ≡ rideNumber (viewOf (d .plan) (d .payload) (d .phase) image) (copyOf (d .plan) image 0 copyA) turns) where
   pub ride-refused : ¬ (k ≡ 0) → Gives (record { number = k; device = d }) image (ride (modelled d) image turns)
   unfolding ride
   ride-refused h = refused d image k _ _ e h
 
   module _ (z : k ≡ 0) where
-    rode : Rode (viewOf (d .plan) (d .phase) image) (copyOf (d .plan) image 0 copyA) turns
+    rode : Rode (viewOf (d .plan) (d .payload) (d .phase) image) (copyOf (d .plan) image 0 copyA) turns
     rode = ride-says _ _ turns (sym e ∙ z)
 
     part : take 8 (drop (d .plan .page) image) ≡ copyOf (d .plan) image 0 copyA
@@ -38,9 +38,9 @@ module _ (d : Device) (image : List ℕ) (turns k : ℕ)
     pub ride-fits : (d .plan .page + 8 ≤ length image) × (amount (take 8 (drop (d .plan .page) image)) + turns ≤ 18446744073709551615)
     unfolding rideNumber
     ride-fits =
-        let l = live (d .plan) (d .phase) image k _ e z in
-        let ok = room (d .plan) (d .phase) image l .ok in (
-          omega (arith, rode .wide, copy-room (d .plan) ok 0, unit-inside (d .plan) (d .phase) image l 0 (count-bounds (d .plan) ok .0)),
+        let l = live (d .plan) (d .payload) (d .phase) image k _ e z in
+        let ok = room (d .plan) (d .payload) (d .phase) image l .ok in (
+          omega (arith, rode .wide, copy-room (d .plan) ok 0, unit-inside (d .plan) (d .payload) (d .phase) image l 0 (count-bounds (d .plan) ok .0)),
           omega (arith, ap amount part, ltb-false 18446744073709551615 (amount (copyOf (d .plan) image 0 copyA) + turns) (rode .room)),
         )
 
@@ -57,18 +57,18 @@ module _ (d : Device) (image : List ℕ) (turns k : ℕ)
         })
 
 -- ---- a total: k is the code's number, xs the part that it read
-module _ (d : Device) (image : List ℕ) (u k : ℕ) (e : k ≡ totalNumber (viewOf (d .plan) (d .phase) image) u) where
+module _ (d : Device) (image : List ℕ) (u k : ℕ) (e : k ≡ totalNumber (viewOf (d .plan) (d .payload) (d .phase) image) u) where
   pub total-refused : ¬ (k ≡ 0) → Shows (record { amount = 0; number = k }) (totalOf (modelled d) image u)
   unfolding totalOf
-  total-refused h = go (totalNumber (viewOf (d .plan) (d .phase) image) u) e
+  total-refused h = go (totalNumber (viewOf (d .plan) (d .payload) (d .phase) image) u) e
     where
       go : (n : ℕ) → k ≡ n → Shows (record { amount = 0; number = k }) (totalUnlessRefused n (amount (copyOf (d .plan) image u copyA)))
       go zero q = absurd (h q)
       go (suc n) q = record { number = q; amount = refl }
 
   module _ (z : k ≡ 0) (xs : List ℕ) (is : xs ≡ read (modelled d) image u) where
-    says : (readNumber (viewOf (d .plan) (d .phase) image) u ≡ 0) × (width (d .plan) u ≡ 8)
-    says = total-says (d .plan) (d .phase) image u (sym e ∙ z)
+    says : (readNumber (viewOf (d .plan) (d .payload) (d .phase) image) u ≡ 0) × (width (d .plan) u ≡ 8)
+    says = total-says (d .plan) (d .payload) (d .phase) image u (sym e ∙ z)
 
     pub total-size : length xs ≡ 8
     total-size = ap length is ∙ every-call (modelled d) image .read u .size (says .0) ∙ says .1

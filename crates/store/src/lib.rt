@@ -3,7 +3,7 @@
 // Every contract is an equation with the definitions of crates/model/specs/Calls.antt, or, for `steps`, of Steps.antt.
 ghost use mathlib.Core.Path.{_≡_};
 ghost use Rattle.model.specs.Refusals.{readNumber};
-ghost use Rattle.model.specs.Calls.{view, start, format, begin, ride, step, wake, cut, read, totalOf, inspect};
+ghost use Rattle.model.specs.Calls.{view, start, format, begin, ride, group, step, wake, cut, read, totalOf, inspect};
 ghost use Rattle.model.specs.Steps.{steps};
 ghost use Rattle.store.specs.Modelled.{modelled, blanked, Gives, Starts, Shows};
 use advance::advance;
@@ -11,6 +11,8 @@ use advance::advance_by;
 use amount::amount_of;
 use format::format_units;
 use format::zero_filled;
+use group::record_of;
+use grouping::group_number;
 use lookup::device_number;
 use lookup::plan_number;
 use lookup::span_of;
@@ -23,6 +25,7 @@ use refusal::cut_number;
 use refusal::format_number;
 use refusal::read_number;
 use refusal::wake_number;
+use resume::resume;
 use ride::ridden;
 use ride::ride_number;
 use ride::total_number;
@@ -74,6 +77,7 @@ impl Device {
                 count: 0,
                 widths: [0u16; 8],
                 page: 1,
+                grouped: false,
             };
             return Answer {
                 number: number,
@@ -92,7 +96,8 @@ impl Device {
     {
         let plan = self.plan;
         let phase = self.phase;
-        let number = format_number(plan, phase, &image[..]);
+        let payload = self.payload;
+        let number = format_number(plan, &payload, phase, &image[..]);
         if number != 0 {
             return Answer {
                 number: number,
@@ -106,14 +111,15 @@ impl Device {
         }
     }
 
-    // Takes the payload of a write, whose stores the steps make. Refused: 1 to 8.
+    // Takes the payload of a write, whose stores the steps make. Refused: 1 to 6, 20 for the group record, 7 and 8, in this order.
     pub fn begin(self, image: &[u8], unit: u16, payload: &[u8]) -> Answer
         ensures { λ r. ⌜ Gives r (now (image .entry)) (begin (modelled self) (now (image .entry)) unit (now (payload .entry))) ⌝ }
     {
         let plan = self.plan;
         let phase = self.phase;
         let stores = self.stores;
-        let number = begin_number(plan, phase, image, unit, payload.len());
+        let old = self.payload;
+        let number = begin_number(plan, &old, phase, image, unit, payload.len());
         if number != 0 {
             return Answer {
                 number: number,
@@ -136,14 +142,15 @@ impl Device {
     }
 
     // Takes the turns of a ride: begins a write of unit 0, of the total that it holds and the turns. Refused: 1 to 5, 16 where unit 0
-    // isn't eight bytes wide, 8, and 15 where the sum exceeds 64 bits, in this order.
+    // isn't eight bytes wide, 20 where it is the group record, 8, and 15 where the sum exceeds 64 bits, in this order.
     pub fn ride(self, image: &[u8], turns: u64) -> Answer
         ensures { λ r. ⌜ Gives r (now (image .entry)) (ride (modelled self) (now (image .entry)) turns) ⌝ }
     {
         let plan = self.plan;
         let phase = self.phase;
         let stores = self.stores;
-        let number = ride_number(plan, phase, image, turns);
+        let payload = self.payload;
+        let number = ride_number(plan, &payload, phase, image, turns);
         if number != 0 {
             return Answer {
                 number: number,
@@ -162,15 +169,44 @@ impl Device {
         }
     }
 
-    // Makes the next store of a write or a cleanup, one byte, and counts it. Refused: 1 to 5.
+    // Takes a group: two to four members that are saved together, each a byte for its unit and that unit's payload. The steps write the
+    // group record, the members in their order, and the record with zeros. Refused: 1 to 5, 19 where the bytes are not such members, 20
+    // where a unit stands twice or is the record, 21 where there is no record or it is too narrow, and 8, in this order.
+    pub fn group(self, image: &[u8], bytes: &[u8]) -> Answer
+        ensures { λ r. ⌜ Gives r (now (image .entry)) (group (modelled self) (now (image .entry)) (now (bytes .entry))) ⌝ }
+    {
+        let plan = self.plan;
+        let phase = self.phase;
+        let stores = self.stores;
+        let payload = self.payload;
+        let number = group_number(plan, &payload, phase, image, bytes);
+        if number != 0 {
+            return Answer {
+                number: number,
+                device: self,
+            };
+        }
+        let record = record_of(plan, bytes);
+        Answer {
+            number: 0,
+            device: Device {
+                plan: plan,
+                payload: record,
+                phase: Phase::Grouping { write: 0, made: 0 },
+                stores: stores,
+            },
+        }
+    }
+
+    // Makes the next store of a write, a group or a cleanup, one byte, and counts it. Refused: 1 to 5.
     pub fn step(self, image: &mut [u8]) -> Answer
         ensures { λ r. ⌜ Gives r (now (image .exit)) (step (modelled self) (now (image .entry))) ⌝ }
     {
         let plan = self.plan;
-        let payload = self.payload;
+        let mut payload = self.payload;
         let phase = self.phase;
         let stores = self.stores;
-        let after = advance(plan, &payload, phase, stores, &mut image[..]);
+        let after = advance(plan, &mut payload[..], phase, stores, &mut image[..]);
         let reached = after.phase;
         let made = after.stores;
         Answer {
@@ -189,10 +225,10 @@ impl Device {
         ensures { λ r. ⌜ Gives r (now (image .exit)) (steps count (modelled self) (now (image .entry))) ⌝ }
     {
         let plan = self.plan;
-        let payload = self.payload;
+        let mut payload = self.payload;
         let phase = self.phase;
         let stores = self.stores;
-        let after = advance_by(plan, &payload, phase, stores, &mut image[..], count);
+        let after = advance_by(plan, &mut payload[..], phase, stores, &mut image[..], count);
         let number = after.number;
         let next = after.phase;
         let counted = after.stores;
@@ -207,29 +243,30 @@ impl Device {
         }
     }
 
-    // Begins the cleanup of the lowest unit whose marker isn't OK, or is Ready. Stores nothing. Refused: 1 to 5, and 14 where a
-    // marker is foreign.
+    // Begins the cleanup of the lowest unit whose marker isn't OK; else goes on with the group whose record stands, or is Ready. Stores
+    // nothing. Refused: 1 to 5, and 14 where a marker is foreign.
     pub fn wake(self, image: &[u8]) -> Answer
         ensures { λ r. ⌜ Gives r (now (image .entry)) (wake (modelled self) (now (image .entry))) ⌝ }
     {
         let plan = self.plan;
         let phase = self.phase;
-        let number = wake_number(plan, phase, image);
+        let mut payload = self.payload;
+        let number = wake_number(plan, &payload, phase, image);
         if number != 0 {
             return Answer {
                 number: number,
                 device: self,
             };
         }
-        let payload = self.payload;
         let kept = self.stores;
-        let next = cleanup_from(plan, image, 0);
+        let found = cleanup_from(plan, image, 0);
+        let onward = resume(plan, &mut payload[..], image, found);
         Answer {
             number: 0,
             device: Device {
                 plan: plan,
                 payload: payload,
-                phase: next,
+                phase: onward,
                 stores: kept,
             },
         }
@@ -244,7 +281,7 @@ impl Device {
         let payload = self.payload;
         let phase = self.phase;
         let count = self.stores;
-        let number = cut_number(plan, phase, &image[..], page.len());
+        let number = cut_number(plan, &payload, phase, &image[..], page.len());
         if number != 0 {
             return Answer {
                 number: number,
@@ -270,7 +307,8 @@ impl Device {
     {
         let plan = self.plan;
         let phase = self.phase;
-        read_number(plan, phase, image, unit)
+        let payload = self.payload;
+        read_number(plan, &payload, phase, image, unit)
     }
 
     // Copy A of a unit, as a part of the image; an empty part when refused.
@@ -279,7 +317,8 @@ impl Device {
     {
         let plan = self.plan;
         let phase = self.phase;
-        let number = read_number(plan, phase, image, unit);
+        let payload = self.payload;
+        let number = read_number(plan, &payload, phase, image, unit);
         if number != 0 {
             return &image[..0];
         }
@@ -295,7 +334,8 @@ impl Device {
     {
         let plan = self.plan;
         let phase = self.phase;
-        let number = total_number(plan, phase, image, unit);
+        let payload = self.payload;
+        let number = total_number(plan, &payload, phase, image, unit);
         if number != 0 {
             return Total {
                 amount: 0,
@@ -315,7 +355,8 @@ impl Device {
     {
         let plan = self.plan;
         let phase = self.phase;
-        let number = device_number(plan, phase, image.len());
+        let payload = self.payload;
+        let number = device_number(plan, &payload, phase, image.len());
         if number != 0 {
             return Inspection::Refused(number);
         }

@@ -17,10 +17,10 @@ use Rattle.layout.proofs.measure.Statement.{statement}
 use Rattle.layout.proofs.measure.Tie as tie
 
 abbrev the : ℕ → List ℕ → ℕ → Plan
-the count widths page = record { count = count; widths = widths; page = page }
+the count widths page = record { count = count; widths = widths; page = page; grouped = false }
 
 abbrev Inv-loop : tie.InvT-loop
-Inv-loop unit count widths asked page copies₀ earlier₀ i₀ copies earlier i = (i ≤ count) × (count ≤ 8) × (badWidths (the count widths asked) i ≡ false)
+Inv-loop unit count widths asked page copies₀ earlier₀ i₀ copies earlier i = (i ≤ count) × (count ≤ 8) × (badWidths widths i ≡ false)
     × (copies ≡ copied (used (the count widths asked)) widths i) × (copies ≤ i * 271) × (unit < i → earlier ≡ copied (used (the count widths asked)) widths unit) × (earlier ≤ 2168)
 
 abbrev μ-loop : tie.MeasureT-loop
@@ -117,7 +117,7 @@ returns-3 c = let p = c .before .before .before .before .before .before .before 
     let l = c .before .before .before .loop in
     let all : l .i ≡ p .count = omega (arith, l .inv .0, c .before .before .loop-test .left) in
     unmeasured p _ _ 16 (c .unfit3 .ensures)
-    (plan-seventeen p (sym (c .before .before .before .before .before .before .outside .ensures) ∙ c .before .before .before .before .before .if1 .left) (sym (ap (badWidths p) all) ∙ l .inv .2)
+    (plan-seventeen p (sym (c .before .before .before .before .before .before .outside .ensures) ∙ c .before .before .before .before .before .if1 .left) (sym (ap (badWidths (p .widths)) all) ∙ l .inv .2)
     (page-lost p _ (c .before .before .before .before .page-of .ensures) (c .before .if4 .taken)))
 
 mul-t22 : tie.Need-mul-t22 Inv-loop μ-loop
@@ -156,7 +156,7 @@ returns-4 c = let p = c .before .before .before .before .before .before .before 
     let all : l .i ≡ p .count = omega (arith, l .inv .0, c .before .loop-test .left) in
     let ok : PlanOk p = record {
       count = sym (c .before .before .before .before .before .outside .ensures) ∙ c .before .before .before .before .if1 .left;
-      widths = sym (ap (badWidths p) all) ∙ l .inv .2;
+      widths = sym (ap (badWidths (p .widths)) all) ∙ l .inv .2;
       page = page-kept p _ (c .before .before .before .page-of .ensures) page;
     } in
     record {

@@ -1,8 +1,7 @@
 -- `layout::unit_length` meets its contract: the marker's page and two copies.
 use native.Mathlib.Omega.{arith}
-use mathlib.Core.Path.{_≡_, _∙_, ap, ap₂}
+use mathlib.Core.Path.{_∙_, ap, ap₂}
 use mathlib.Core.Bool.{cond}
-use Prim.Native.Nat.{ℕ, _+_, _*_}
 use borrow.Author.Needs.{needs}
 use Rattle.model.specs.Layout.{wholePages}
 use Rattle.layout.proofs.Laws.{page-size, size-bounds}

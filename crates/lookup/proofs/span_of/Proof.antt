@@ -48,7 +48,8 @@ width-of-requires c κs = search needs
 copy-length-requires : tie.Need-copy-length-requires
 copy-length-requires c κs = let m = c .before .before .before .before .before .before .measure .ensures in
     let z = c .before .before .before .before .if1 .left in
-    subst PageSize (sym (m .page z)) (page-fits _ (start-says _ (sym (m .number) ∙ z) .page))
+    let p = c .before .before .before .before .before .before .before .args .plan in
+    subst PageSize (sym (m .page z)) (page-fits p (start-says p (sym (m .number) ∙ z) .page))
 
 add-t12 : tie.Need-add-t12
 add-t12 c = let a = c .before .before .before .before .before .before .before .before .args in

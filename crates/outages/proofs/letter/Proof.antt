@@ -6,10 +6,10 @@ use Rattle.outages.proofs.letter.Statement.{statement}
 use Rattle.outages.proofs.letter.Tie as tie
 
 abbrev Inv-loop : tie.InvT-loop
-Inv-loop page calls found₀ m₀ found m = m ≤ 255
+Inv-loop group page calls found₀ m₀ found m = m ≤ 255
 
 abbrev μ-loop : tie.MeasureT-loop
-μ-loop page calls found₀ m₀ found m = 255 - m
+μ-loop group page calls found₀ m₀ found m = 255 - m
 
 back-requires : tie.Need-back-requires Inv-loop μ-loop
 back-requires c κs = search needs

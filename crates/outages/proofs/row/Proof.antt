@@ -6,10 +6,10 @@ use Rattle.outages.proofs.row.Statement.{statement}
 use Rattle.outages.proofs.row.Tie as tie
 
 abbrev Inv-loop : tie.InvT-loop
-Inv-loop page start steps calls made₀ t7 made = made ≤ steps
+Inv-loop group page start steps calls made₀ t7 made = made ≤ steps
 
 abbrev μ-loop : tie.MeasureT-loop
-μ-loop page start steps calls made₀ t7 made = steps - made
+μ-loop group page start steps calls made₀ t7 made = steps - made
 
 loop-holds : tie.Need-loop-holds Inv-loop μ-loop
 loop-holds c = omega arith

@@ -1,8 +1,8 @@
 -- `refusal::phase_number` meets its contract: refusals 1 to 4 first, then 5.
 use mathlib.Core.Path.{refl, sym, _∙_}
 use mathlib.Core.List.{[]}
-use borrow.Author.Needs.{needs}
 use Rattle.model.proofs.RefusalLaws.{first-refused, first-passed, first-stop, first-skip, first-none}
+use borrow.Author.Needs.{needs}
 use Rattle.refusal.proofs.phase_number.Statement.{statement}
 use Rattle.refusal.proofs.phase_number.Tie as tie
 

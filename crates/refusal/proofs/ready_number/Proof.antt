@@ -1,6 +1,7 @@
 -- `refusal::ready_number` meets its contract.
-use borrow.Author.Needs.{needs}
+use denote.Ref.{now}
 use Rattle.refusal.proofs.Laws.{phase-tested}
+use borrow.Author.Needs.{needs}
 use Rattle.refusal.proofs.ready_number.Statement.{statement}
 use Rattle.refusal.proofs.ready_number.Tie as tie
 
@@ -12,7 +13,7 @@ phase-number-requires c κs = search needs
 
 returns : tie.Need-returns
 returns c = let a = c .before .before .args in
-    phase-tested (a .plan) (a .phase) (a .length) _ _ (c .phase-number .ensures) (c .before .not-ready .ensures)
+    phase-tested (a .plan) (now (a .payload)) (a .phase) (a .length) _ _ (c .phase-number .ensures) (c .before .not-ready .ensures)
 
 pub ready-number-spec : {M : Type 1} → statement M
 ready-number-spec = tie.close (tie.spec not-ready-requires phase-number-requires returns)

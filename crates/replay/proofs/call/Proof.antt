@@ -1,8 +1,8 @@
--- `replay::call` meets its contract, by the kind.
+-- `replay::call` meets its contract: by the kind.
 use borrow.Author.Tests.{eq-eqb, ne-eqb}
-use borrow.Author.Needs.{needs}
 use Rattle.model.specs.PowerCut.{call}
 use Rattle.recovery.specs.Encoding.{callOf}
+use borrow.Author.Needs.{needs}
 use Rattle.replay.proofs.call.Statement.{statement}
 use Rattle.replay.proofs.call.Tie as tie
 
@@ -49,15 +49,25 @@ returns-4 : tie.Need-returns-4
 unfolding call callOf
 returns-4 c = rw (ne-eqb _ 1 (c .before .before .before .before .before .before .if1 .left), ne-eqb _ 2 (c .before .before .before .before .before .if2 .left), ne-eqb _ 3 (c .before .before .before .before .if3 .left), eq-eqb _ 4 (c .before .before .before .if4 .taken), ← c .before .turns-of .ensures) (c .ride .ensures)
 
-step-requires : tie.Need-step-requires
-step-requires c κs = search needs
+group-requires : tie.Need-group-requires
+group-requires c κs = search needs
 
 same-length-5 : tie.Need-same-length-5
 same-length-5 c = search needs
 
 returns-5 : tie.Need-returns-5
 unfolding call callOf
-returns-5 c = rw (ne-eqb _ 1 (c .before .before .before .before .before .before .before .if1 .left), ne-eqb _ 2 (c .before .before .before .before .before .before .if2 .left), ne-eqb _ 3 (c .before .before .before .before .before .if3 .left), ne-eqb _ 4 (c .before .before .before .before .if4 .left)) (c .before .before .step .ensures)
+returns-5 c = rw (ne-eqb _ 1 (c .before .before .before .before .before .before .if1 .left), ne-eqb _ 2 (c .before .before .before .before .before .if2 .left), ne-eqb _ 3 (c .before .before .before .before .if3 .left), ne-eqb _ 4 (c .before .before .before .if4 .left), eq-eqb _ 5 (c .before .before .if5 .taken)) (c .group .ensures)
+
+step-requires : tie.Need-step-requires
+step-requires c κs = search needs
+
+same-length-6 : tie.Need-same-length-6
+same-length-6 c = search needs
+
+returns-6 : tie.Need-returns-6
+unfolding call callOf
+returns-6 c = rw (ne-eqb _ 1 (c .before .before .before .before .before .before .before .before .if1 .left), ne-eqb _ 2 (c .before .before .before .before .before .before .before .if2 .left), ne-eqb _ 3 (c .before .before .before .before .before .before .if3 .left), ne-eqb _ 4 (c .before .before .before .before .before .if4 .left), ne-eqb _ 5 (c .before .before .before .before .if5 .left)) (c .before .before .step .ensures)
 
 pub call-spec : {M : Type 1} → statement M
 call-spec =
@@ -76,6 +86,9 @@ call-spec =
     ride-requires
     same-length-4
     returns-4
-    step-requires
+    group-requires
     same-length-5
-    returns-5)
+    returns-5
+    step-requires
+    same-length-6
+    returns-6)

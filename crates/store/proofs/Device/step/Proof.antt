@@ -14,7 +14,7 @@ same-length : tie.Need-same-length
 same-length c = search needs
 
 returns : tie.Need-returns
-returns c = gives _ _ _ _ (c .before .before .advance .ensures)
+returns c = gives _ _ _ _ (c .before .before .before .advance .ensures)
 
 pub step-spec : {M : Type 1} → statement M
 step-spec = tie.close (tie.spec slice-aggregate-advance advance-requires same-length returns)

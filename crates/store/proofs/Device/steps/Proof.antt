@@ -14,7 +14,7 @@ same-length : tie.Need-same-length
 same-length c = search needs
 
 returns : tie.Need-returns
-returns c = gives _ _ _ _ (c .before .before .advance-by .ensures)
+returns c = gives _ _ _ _ (c .before .before .before .advance-by .ensures)
 
 pub steps-spec : {M : Type 1} → statement M
 steps-spec =
