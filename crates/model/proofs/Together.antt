@@ -1,15 +1,15 @@
--- A group that is cut leaves all its members or none: of the ledger, along the group's steps.
+-- A group that is cut leaves all its members or none: of the ledger, along the group's steps, and whatever is called after them.
 use Prim.Native.Nat.{ℕ, zero, suc, _+_, _-_, _*_, _≤_, _<_}
 use mathlib.Core.Path.{_≡_, refl, ap, sym, _∙_, subst, fun-ext}
 use mathlib.Core.List.{List, [], _∷_, _++_}
-use mathlib.Core.Bool.{Bool, true, false, cond, true≢false, false≢true}
+use mathlib.Core.Bool.{Bool, true, false, cond, _&&_, true≢false, false≢true}
 use native.Mathlib.Omega.{arith}
 use lib.Dec.{eqb, ltb}
 use lib.ListN.{replicate}
 use borrow.Author.Tests.{ne-eqb, ltb-true, lt-ltb}
 use Rattle.model.specs.declared.Plan.{Plan}
 use Rattle.model.specs.Plans.{width}
-use Rattle.model.specs.Marker.{OK, B, completed, tornBy, markerLeft}
+use Rattle.model.specs.Marker.{OK, B, End, completed, tornBy, markerLeft}
 use Rattle.model.specs.Layout.{Copy, copyOf}
 use Rattle.model.specs.Groups.{Write, write, last, among, twice, members, payloadOf, remaining, writes, nth, writeAt, isLastWrite, overlaps}
 use Rattle.model.specs.Refusals.{Job, cold, ready, writing, recovering, grouping, isCold}
@@ -19,7 +19,7 @@ use Rattle.model.specs.Ledger.{Ledger, Call, begin, ride, step, cut, wak
 use Rattle.model.specs.Ledger as ledger
 use Rattle.model.specs.Records.{Splits, member, Has, Nth, head, tail}
 use Rattle.model.specs.PowerCut.{run, closedBy}
-use Rattle.model.specs.Together.{NoWrite, Together, none, all, AllOrNone}
+use Rattle.model.specs.Together.{passing, passedBy, passed, asks, later, Together, none, all, Whole, AllOrNone, NoWrite, AllOrNoneAlone}
 use Rattle.model.proofs.Compare.{equal, differ, same}
 use Rattle.model.proofs.RefusalLaws.{false-or, wake-says}
 use Rattle.model.proofs.Tasks.{part}
@@ -59,6 +59,63 @@ not-among u ms never = go (among u ms) refl
     go : (t : Bool) → among u ms ≡ t → among u ms ≡ false
     go true e = absurd (never (among-has u ms e))
     go false e = e
+
+-- ---- what a list of calls saves is what passes in it
+saving-append : (xs ys : List Write) (f : Bytes) → savingAll (xs ++ ys) f ≡ savingAll ys (savingAll xs f)
+unfolding savingAll
+saving-append [] ys f = refl
+saving-append (x ∷ xs) ys f = saving-append xs ys (saving (x .unit) (x .bytes) f)
+
+module _ (p : Plan) where
+  if-passed : (t : Bool) (xs : List Write) (f : Bytes) → cond t (savingAll xs f) f ≡ savingAll (cond t xs []) f
+  unfolding savingAll
+  if-passed true xs f = refl
+  if-passed false xs f = refl
+
+  step-saves : (x : Ledger) (j : Job) → stepped p x j .saved ≡ savingAll (passing p x completed j) (x .saved)
+  unfolding savingAll
+  step-saves x cold = refl
+  step-saves x ready = refl
+  step-saves x (writing u n) =
+      if-passed (ledger.passesAt p x (write u (x .payload)) (suc n) completed) (write u (x .payload) ∷ []) (x .saved)
+  step-saves x (recovering u n) = refl
+  step-saves x (grouping i n) =
+      if-passed (ledger.passesAt p x (writeAt p (x .payload) i) (suc n) completed) (countWith p (x .payload) i) (x .saved)
+
+  cut-saves : (x : Ledger) (bytes : List ℕ) (j : Job) → wasCut p x bytes j .saved ≡ savingAll (passing p x (tornBy bytes) j) (x .saved)
+  unfolding savingAll
+  cut-saves x bytes cold = refl
+  cut-saves x bytes ready = refl
+  cut-saves x bytes (writing u n) =
+      if-passed (ledger.passesAt p x (write u (x .payload)) (suc n) (tornBy bytes)) (write u (x .payload) ∷ []) (x .saved)
+  cut-saves x bytes (recovering u n) = refl
+  cut-saves x bytes (grouping i n) =
+      if-passed (ledger.passesAt p x (writeAt p (x .payload) i) (suc n) (tornBy bytes)) (countWith p (x .payload) i) (x .saved)
+
+  call-saves : (x : Ledger) (c : Call) → accepted p x c .saved ≡ savingAll (passedBy p x c) (x .saved)
+  unfolding accepted savingAll
+  call-saves x (begin u payload) = refl
+  call-saves x (ride turns) = refl
+  call-saves x (group g) = refl
+  call-saves x step = step-saves x (x .job)
+  call-saves x (cut bytes) = cut-saves x bytes (x .job)
+  call-saves x wake = refl
+
+  fed-saves : (x : Ledger) (c : Call) → fed p x c .saved ≡ savingAll (cond (eqb (told p x c) 0) (passedBy p x c) []) (x .saved)
+  unfolding fed savingAll
+  fed-saves x c = go (told p x c)
+    where
+      go : (n : ℕ) → ledger.unlessRefused n x (accepted p x c) .saved ≡ savingAll (cond (eqb n 0) (passedBy p x c) []) (x .saved)
+      go zero = call-saves x c
+      go (suc n) = rw (ne-eqb (suc n) 0 (omega arith))
+
+  list-saves : (cs : List Call) (x : Ledger) → after p x cs .saved ≡ savingAll (passed p x cs) (x .saved)
+  unfolding after passed savingAll
+  list-saves [] x = refl
+  list-saves (c ∷ cs) x =
+      list-saves cs (fed p x c)
+      ∙ ap (savingAll (passed p (fed p x c) cs)) (fed-saves x c)
+      ∙ sym (saving-append (cond (eqb (told p x c) 0) (passedBy p x c) []) (passed p (fed p x c) cs) (x .saved))
 
 module _ (p : Plan) (g : List ℕ) (l : Ledger) (pr : Promised p l) (gd : Grouped (judged p l) g) where
   abbrev wr : ℕ
@@ -237,28 +294,62 @@ module _ (p : Plan) (g : List ℕ) (l : Ledger) (pr : Promised p l) (gd : Groupe
         go zero e = h e on
         go (suc n) e = on
 
-  on-calls : (cs : List Call) → NoWrite cs → (x : Ledger) → On x → On (after p x cs)
+  -- what is saved in the end, but for what later writes replaced
+  record Ended (x : Ledger) (cs : List Call) : Type 0 where
+    pub kept : Bytes
+    pub which : Either kept
+    pub same : (u : ℕ) → among u (later p x cs) ≡ false → after p x cs .saved u ≡ kept u
+
+  -- a call that asks for nothing, or is refused
+  goes-on : (c : Call) (cs : List Call) (x : Ledger) → asks c && eqb (told p x c) 0 ≡ false → Ended (fed p x c) cs → Ended x (c ∷ cs)
+  unfolding later after
+  goes-on c cs x h e =
+      record {
+        kept = e .kept;
+        which = e .which;
+        same = λ u r. e .same u (rw h at r);
+      }
+
+  -- a call that asks for a write: what is saved then is kept, but where another write passes
+  asked : (c : Call) (cs : List Call) (x : Ledger) → asks c ≡ true → On x → (On (fed p x c) → Ended (fed p x c) cs) → Ended x (c ∷ cs)
+  unfolding later
+  asked c cs x h on more = go (told p x c) refl
+    where
+      go : (n : ℕ) → told p x c ≡ n → Ended x (c ∷ cs)
+      go zero e =
+          record {
+            kept = x .saved;
+            which = either-on on;
+            same = λ u r.
+                ap (λ (f : Bytes). f u) (list-saves p (c ∷ cs) x)
+                ∙ not-written (passed p x (c ∷ cs)) (x .saved) u (rw (h, e) at r);
+          }
+      go (suc n) e =
+          goes-on c cs x (rw (h, ne-eqb (told p x c) 0 (omega (arith, e)))) (more (on-call x c (λ z. absurd (omega (arith, z, e))) on))
+
+  ended : (cs : List Call) (x : Ledger) → On x → Ended x cs
   unfolding after
-  on-calls [] h x on = on
-  on-calls (begin u payload ∷ cs) h x on = absurd h
-  on-calls (ride turns ∷ cs) h x on = absurd h
-  on-calls (group gs ∷ cs) h x on = absurd h
-  on-calls (step ∷ cs) h x on = on-calls cs h (fed p x step) (on-call x step (λ e. stepping x) on)
-  on-calls (cut bytes ∷ cs) h x on = on-calls cs h (fed p x (cut bytes)) (on-call x (cut bytes) (λ e. cutting x bytes) on)
-  on-calls (wake ∷ cs) h x on = on-calls cs h (fed p x wake) (on-call x wake (waking x) on)
+  ended [] x on = record { kept = x .saved; which = either-on on; same = λ u r. refl }
+  ended (begin u payload ∷ cs) x on = asked (begin u payload) cs x refl on (ended cs (fed p x (begin u payload)))
+  ended (ride turns ∷ cs) x on = asked (ride turns) cs x refl on (ended cs (fed p x (ride turns)))
+  ended (group gs ∷ cs) x on = asked (group gs) cs x refl on (ended cs (fed p x (group gs)))
+  ended (step ∷ cs) x on = goes-on step cs x refl (ended cs (fed p x step) (on-call x step (λ e. stepping x) on))
+  ended (cut bytes ∷ cs) x on = goes-on (cut bytes) cs x refl (ended cs (fed p x (cut bytes)) (on-call x (cut bytes) (λ e. cutting x bytes) on))
+  ended (wake ∷ cs) x on = goes-on wake cs x refl (ended cs (fed p x wake) (on-call x wake (waking x) on))
 
   -- as the image shows it
-  shown : (old new : Bytes) (s : Bytes) → ((u : ℕ) → u < p .count → old u ≡ l .saved u) → ((u : ℕ) → u < p .count → new u ≡ s u)
-      → Either s → Together p (members p g) old new
+  shown : (old new s : Bytes) (replaced : List Write) → ((u : ℕ) → u < p .count → old u ≡ l .saved u)
+      → ((u : ℕ) → u < p .count → among u replaced ≡ false → new u ≡ s u) → Either s → Together p (members p g) replaced old new
   unfolding overlaps
-  shown old new s held copies (before q) = none (λ u hu. copies u hu ∙ ap (λ (k : Bytes). k u) q ∙ sym (held u hu))
-  shown old new s held copies (whole-of q) =
+  shown old new s replaced held copies (before q) =
+      none (λ u hu kept. copies u hu (not-among u replaced kept) ∙ ap (λ (k : Bytes). k u) q ∙ sym (held u hu))
+  shown old new s replaced held copies (whole-of q) =
       let t : twice (members p g) ≡ false = false-or (twice (members p g)) _ (gd .apart) .0 in
       all
-      (λ i x n. copies (x .unit) (nth-unit p (group-told p g (gd .parts) .splits) n) ∙ ap (λ (k : Bytes). k (x .unit)) q
-      ∙ saved-last (l .saved) t n)
-      (λ u hu never. copies u hu ∙ ap (λ (k : Bytes). k u) q ∙ not-written (members p g) (l .saved) u (not-among u (members p g) never)
-      ∙ sym (held u hu))
+      (λ i x n kept. copies (x .unit) (nth-unit p (group-told p g (gd .parts) .splits) n) (not-among (x .unit) replaced kept)
+      ∙ ap (λ (k : Bytes). k (x .unit)) q ∙ saved-last (l .saved) t n)
+      (λ u hu never kept. copies u hu (not-among u replaced kept) ∙ ap (λ (k : Bytes). k u) q
+      ∙ not-written (members p g) (l .saved) u (not-among u (members p g) never) ∙ sym (held u hu))
 
   opened : told p l (group g) ≡ 0 → On (fed p l (group g))
   unfolding fed accepted
@@ -269,23 +360,20 @@ unfolding after
 after-append p [] ys l = refl
 after-append p (x ∷ xs) ys l = after-append p xs ys (fed p l x)
 
-closed-none : (bytes : List ℕ) (cs : List Call) → NoWrite cs → NoWrite (closedBy bytes cs)
-closed-none bytes [] h = tt
-closed-none bytes (begin u payload ∷ cs) h = h
-closed-none bytes (ride turns ∷ cs) h = h
-closed-none bytes (group g ∷ cs) h = h
-closed-none bytes (step ∷ cs) h = closed-none bytes cs h
-closed-none bytes (cut other ∷ cs) h = closed-none bytes cs h
-closed-none bytes (wake ∷ cs) h = closed-none bytes cs h
+-- the closed list in two parts, the first of which ends with the group
+regroup : (cs : List Call) (g : List ℕ) (more : List Call) (bytes : List ℕ)
+    → closedBy bytes (cs ++ (group g ∷ more)) ≡ (cs ++ (group g ∷ [])) ++ closedBy bytes more
+regroup [] g more bytes = refl
+regroup (c ∷ cs) g more bytes = ap (λ (xs : List Call). c ∷ xs) (regroup cs g more bytes)
 
-after-group : (p : Plan) (l : Ledger) (g : List ℕ) (more zs : List Call)
-    → after p (after p l (group g ∷ more)) zs ≡ after p (fed p l (group g)) (more ++ zs)
+-- the ledger at the group, and on to the end
+at-group : (p : Plan) (l : Ledger) (g : List ℕ) → after p l (group g ∷ []) ≡ fed p l (group g)
 unfolding after
-after-group p l g more zs = sym (after-append p more zs (fed p l (group g)))
+at-group p l g = refl
 
 pub all-or-none : AllOrNone
 unfolding told overlaps
-all-or-none d image e cs g a more quiet bytes closes =
+all-or-none d image e cs g a more bytes closes =
     let p : Plan = d .plan in
     let f : Outcome = calls.format d image in
     let opens = format-opens d image e in
@@ -295,22 +383,50 @@ all-or-none d image e cs g a more quiet bytes closes =
     let accepts : told p l (group g) ≡ 0 = sym (keeps p ok image l (run cs f) inv (group g) .answer) ∙ a in
     let gd : Grouped (judged p l) g = group-says (judged p l) g accepts in
     let pr : Promised p l = saved-before d image e cs in
-    let ms : List Write = members p g in
-    let is : after p (opening p) (closedBy bytes (cs ++ (group g ∷ more))) ≡ after p (fed p l (group g)) (closedBy bytes more) =
-    after-append p (cs ++ (group g ∷ more)) (cut bytes ∷ []) (opening p)
-    ∙ ap (λ (x : Ledger). after p x (cut bytes ∷ [])) (after-append p cs (group g ∷ more) (opening p))
-    ∙ after-group p l g more (cut bytes ∷ []) in
-    let on = on-calls p g l pr gd (closedBy bytes more) (closed-none bytes more quiet) (fed p l (group g)) (opened p g l pr gd accepts) in
+    let begun : Ledger = after p (opening p) (cs ++ (group g ∷ [])) in
+    let begun-is : begun ≡ fed p l (group g) = after-append p cs (group g ∷ []) (opening p) ∙ at-group p l g in
+    let is : after p (opening p) (closedBy bytes (cs ++ (group g ∷ more))) ≡ after p begun (closedBy bytes more) =
+    ap (after p (opening p)) (regroup cs g more bytes) ∙ after-append p (cs ++ (group g ∷ [])) (closedBy bytes more) (opening p) in
+    let end = ended p g l pr gd (closedBy bytes more) begun (subst (On p g l pr gd) (sym begun-is) (opened p g l pr gd accepts)) in
     let repaired = power-cut d image e (cs ++ (group g ∷ more)) bytes closes .repaired in
     let held : (c : Copy) (u : ℕ) → u < p .count → copyOf p (run cs f .image) u c ≡ l .saved u =
     λ c u hu. ready-copies p ok image l (run cs f) inv (gd .job) u hu c ∙ ap (λ (k : Bytes). k u) (sym (ready-same p l pr (gd .job))) in
     record {
-      ms = ms;
+      ms = members p g;
       isGroup = group-told p g (gd .parts);
       steps = repaired .steps;
       needed = repaired .needed;
       ready = repaired .ready;
       together = λ c.
-          shown p g l pr gd (λ u. copyOf p (run cs f .image) u c) _ _ (held c) (λ u hu. repaired .copies u hu c)
-          (subst (λ (x : Ledger). Either p g l pr gd (x .saved)) (sym is) (either-on p g l pr gd on));
+          shown p g l pr gd (λ u. copyOf p (run cs f .image) u c) _ (end .kept) (later p begun (closedBy bytes more)) (held c)
+          (λ u hu kept. repaired .copies u hu c ∙ ap (λ (x : Ledger). x .saved u) is ∙ end .same u kept)
+          (end .which);
     }
+
+-- ---- where nothing else is asked for
+none-later : (p : Plan) (cs : List Call) (x : Ledger) → NoWrite cs → later p x cs ≡ []
+unfolding later
+none-later p [] x h = refl
+none-later p (begin u payload ∷ cs) x h = absurd h
+none-later p (ride turns ∷ cs) x h = absurd h
+none-later p (group g ∷ cs) x h = absurd h
+none-later p (step ∷ cs) x h = none-later p cs (fed p x step) h
+none-later p (cut bytes ∷ cs) x h = none-later p cs (fed p x (cut bytes)) h
+none-later p (wake ∷ cs) x h = none-later p cs (fed p x wake) h
+
+closed-none : (bytes : List ℕ) (cs : List Call) → NoWrite cs → NoWrite (closedBy bytes cs)
+closed-none bytes [] h = tt
+closed-none bytes (begin u payload ∷ cs) h = h
+closed-none bytes (ride turns ∷ cs) h = h
+closed-none bytes (group g ∷ cs) h = h
+closed-none bytes (step ∷ cs) h = closed-none bytes cs h
+closed-none bytes (cut other ∷ cs) h = closed-none bytes cs h
+closed-none bytes (wake ∷ cs) h = closed-none bytes cs h
+
+pub all-or-none-alone : AllOrNoneAlone
+all-or-none-alone d image e cs g a more quiet bytes closes =
+    subst
+    (λ (xs : List Write).
+    Whole (d .plan) g xs (run cs (calls.format d image)) (run (closedBy bytes (cs ++ (group g ∷ more))) (calls.format d image)))
+    (none-later (d .plan) (closedBy bytes more) (after (d .plan) (opening (d .plan)) (cs ++ (group g ∷ []))) (closed-none bytes more quiet))
+    (all-or-none d image e cs g a more bytes closes)
