@@ -9,7 +9,7 @@ use lib.ListN.{length, take, replicate}
 use Rattle.model.specs.declared.Plan.{Plan}
 use Rattle.model.specs.declared.Phase.{Phase}
 use Rattle.model.specs.declared.Phase.the-variants.{Cold, Ready, Grouping}
-use Rattle.model.specs.Groups.{Write, write, memberCount, members, payloadOf}
+use Rattle.model.specs.Groups.{Write, write, memberCount, members, payloadOf, writes}
 use Rattle.model.specs.Refusals.{groupNumber, beginNumber, stepNumber}
 use Rattle.model.specs.Calls.{Device, Outcome, view}
 use Rattle.model.specs.Calls as calls
@@ -98,26 +98,18 @@ holding x y =
 
 abbrev pub EveryTear : Type 0
 EveryTear =
-    -- 13 stores of the record, 5 of each member, 13 of the zeros
-    left (group ride ∷ replicate 36 step)
-    -- before the record's store 7, and at it, leaving A and leaving 0
-    ∷ torn 0 255 6
-    ∷ torn 6 0 6
+    -- at the record's store 7, leaving A and leaving 0: 13 stores of the record, 5 of each member, 13 of the zeros
+    torn 6 0 6
     ∷ torn 6 2 29
-    -- the whole record: no marker is bad, and it stands
-    ∷ torn 13 0 23
     -- in a member, whose own write does not pass
     ∷ torn 15 9 25
     -- in the zeros, at their store 7: the record stands still, and stands no more
     ∷ torn 29 0 29
     ∷ torn 29 2 6
-    -- a second cut, in the rewrite of unit 0
+    -- the whole record, where no marker is bad, and it stands; and a second cut, in the rewrite of unit 0
     ∷ left (group ride ∷ replicate 13 step ++ (cut (0 ∷ []) ∷ wake ∷ replicate 4 step ++ (cut (0 ∷ []) ∷ repair 25)))
     ∷ []
-    ≡ holding 51 68
-    ∷ holding 0 0
-    ∷ holding 0 0
-    ∷ holding 51 68
+    ≡ holding 0 0
     ∷ holding 51 68
     ∷ holding 51 68
     ∷ holding 51 68
@@ -153,7 +145,7 @@ EverySaved =
     ∷ bothNew
     ∷ []
 
--- ---- four members: 21 stores of the record, 5 of each, 21 of the zeros, in the order of the group
+-- ---- four members: the record, each in the order of the group, and the zeros
 abbrev plan11119 : Plan
 plan11119 = record { count = 5; widths = 1 ∷ 1 ∷ 1 ∷ 1 ∷ 9 ∷ replicate 3 0; page = 1; grouped = true }
 
@@ -163,14 +155,15 @@ opened = calls.format (calls.start plan11119 .device) (replicate 31 7)
 abbrev four : List ℕ
 four = 2 ∷ 52 ∷ 0 ∷ 50 ∷ 3 ∷ 53 ∷ 1 ∷ 51 ∷ []
 
-abbrev pub EveryMember : Type 0
-EveryMember =
-    run (group four ∷ replicate 62 step) opened .image
-    -- the record and the first member
-    ∷ run (group four ∷ replicate 26 step) opened .image
-    ∷ []
-    ≡ (1 ∷ 50 ∷ 50 ∷ 1 ∷ 51 ∷ 51 ∷ 1 ∷ 52 ∷ 52 ∷ 1 ∷ 53 ∷ 53 ∷ 1 ∷ replicate 18 0)
-    ∷ (1 ∷ 0 ∷ 0 ∷ 1 ∷ 0 ∷ 0 ∷ 1 ∷ 52 ∷ 52 ∷ 1 ∷ 0 ∷ 0 ∷ 1 ∷ (4 ∷ four ++ (4 ∷ four)))
+abbrev pub EveryWrite : Type 0
+EveryWrite =
+    writes plan11119 (payloadOf plan11119 four)
+    ≡ write 4 (4 ∷ four)
+    ∷ write 2 (52 ∷ [])
+    ∷ write 0 (50 ∷ [])
+    ∷ write 3 (53 ∷ [])
+    ∷ write 1 (51 ∷ [])
+    ∷ write 4 (replicate 9 0)
     ∷ []
 
 -- ---- 19 to 21, 8, 5; 20 for a begin; 4
@@ -264,9 +257,24 @@ EveryGroupNumber =
     ∷ 0 ∷ 4 ∷ 4 ∷ 4 ∷ 4 ∷ 4
     ∷ []
 
--- ---- a record that no group gives is passed over, and left as it is
-abbrev wokenOver : List ℕ → List ℕ → Phase
-wokenOver a b = calls.wake (device true Cold []) (1 ∷ 0 ∷ 0 ∷ 1 ∷ 0 ∷ 0 ∷ 1 ∷ (a ++ b)) .device .phase
+-- ---- a record that no group gives is passed over, and left as it is: wake over good markers, with these copies of the last unit
+abbrev wokenOver : Device → List ℕ → List ℕ → Phase
+wokenOver d a b = calls.wake d (1 ∷ 0 ∷ 0 ∷ 1 ∷ 0 ∷ 0 ∷ 1 ∷ (a ++ b)) .device .phase
+
+-- a record as wide as the group and its count, and one that is two bytes wider
+abbrev tight : List ℕ → List ℕ → Phase
+tight = wokenOver (device true Cold [])
+
+abbrev roomy : List ℕ → Phase
+roomy a =
+    wokenOver
+    (record {
+      plan = record { count = 3; widths = 1 ∷ 1 ∷ 7 ∷ replicate 5 0; page = 1; grouped = true };
+      payload = [];
+      phase = Cold;
+      stores = 0;
+    })
+    a (replicate 7 0)
 
 abbrev blank : List ℕ
 blank = replicate 5 0
@@ -274,11 +282,22 @@ blank = replicate 5 0
 abbrev pub EveryRecord : Type 0
 EveryRecord =
     -- taken from copy A
-    wokenOver (2 ∷ 0 ∷ 51 ∷ 1 ∷ 68 ∷ []) blank
-    ∷ wokenOver blank (2 ∷ 0 ∷ 51 ∷ 1 ∷ 68 ∷ [])
-    -- one member, a unit twice, another count
-    ∷ wokenOver (1 ∷ 0 ∷ 51 ∷ 0 ∷ 0 ∷ []) blank
-    ∷ wokenOver (2 ∷ 0 ∷ 51 ∷ 0 ∷ 68 ∷ []) blank
-    ∷ wokenOver (3 ∷ 0 ∷ 51 ∷ 1 ∷ 68 ∷ []) blank
+    tight (2 ∷ 0 ∷ 51 ∷ 1 ∷ 68 ∷ []) blank
+    ∷ tight blank (2 ∷ 0 ∷ 51 ∷ 1 ∷ 68 ∷ [])
+    -- one member, a unit twice, another count, unit k
+    ∷ tight (1 ∷ 0 ∷ 51 ∷ 0 ∷ 0 ∷ []) blank
+    ∷ tight (2 ∷ 0 ∷ 51 ∷ 0 ∷ 68 ∷ []) blank
+    ∷ tight (3 ∷ 0 ∷ 51 ∷ 1 ∷ 68 ∷ []) blank
+    ∷ tight (2 ∷ 0 ∷ 51 ∷ 3 ∷ 68 ∷ []) blank
+    -- no record at all
+    ∷ wokenOver (device false Cold []) (2 ∷ 0 ∷ 51 ∷ 1 ∷ 68 ∷ []) blank
+    -- zeros after the members; another byte there, the first and the last
+    ∷ roomy (2 ∷ 0 ∷ 51 ∷ 1 ∷ 68 ∷ 0 ∷ 0 ∷ [])
+    ∷ roomy (2 ∷ 0 ∷ 51 ∷ 1 ∷ 68 ∷ 9 ∷ 0 ∷ [])
+    ∷ roomy (2 ∷ 0 ∷ 51 ∷ 1 ∷ 68 ∷ 0 ∷ 9 ∷ [])
     ∷ []
-    ≡ Grouping 1 0 ∷ Ready ∷ Ready ∷ Ready ∷ Ready ∷ []
+    ≡ Grouping 1 0 ∷ Ready
+    ∷ Ready ∷ Ready ∷ Ready ∷ Ready
+    ∷ Ready
+    ∷ Grouping 1 0 ∷ Ready ∷ Ready
+    ∷ []

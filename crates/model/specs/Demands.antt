@@ -237,8 +237,8 @@ pub data Torn (bytes : List ℕ) (old new : ℕ) : Cell → ℕ → ℕ → Type
   ofMarker : (left : ℕ) → Mixed (getD bytes 0 0) old new left → Torn bytes old new marker 0 left
   byMarker : (i : ℕ) → Torn bytes old new marker (suc i) (getD bytes (suc i) 0)
 
--- "in Writing or Recovering it tears the next store"; Ticket 10: "A group phase, torn by cut as Writing is"; "the page around the byte it is storing": the page number n of the image.
--- "No other byte is touched."
+-- "in Writing or Recovering it tears the next store"; Ticket 10: "A group phase, torn by cut as Writing is"; "the page around the byte it
+-- is storing": the page number n of the image. "No other byte is touched."
 pub record Tears (d : Device) (image : List ℕ) (bytes image′ : List ℕ) : Type 0 where
   pub unit : ℕ
   pub cell : Cell

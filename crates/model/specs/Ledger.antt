@@ -23,7 +23,8 @@ pub data Call : Type 0 where
 
 -- "It keeps a phase (as above, without direction), the payload, the unit last written (a torn store counts) with its marker,
 -- and each unit's saved bytes." Ticket 10: "a member's write counts as passed exactly when its record's first write passed": `saved` goes
--- by that. `written` has each write of a unit, the record's and a member's too, pass by itself, as document 01 says.
+-- by that. `written` has each write of a unit, the record's and a member's too, pass by itself, as document 01 says. In Ready, where a ride
+-- takes up unit 0's bytes, the two are the same.
 pub record Ledger : Type 0 where
   pub job : Job
   pub payload : List ℕ

@@ -55,7 +55,8 @@ pub data BadDevice (d : Device) (image : List ℕ) : ℕ → Type 0 where
       → BadDevice d image 4
   cleaningMade : (u made : ℕ) (way : Direction) → d .phase ≡ Recovering u made way → width (d .plan) u + 1 ≤ made
       → BadDevice d image 4
-  -- Ticket 10: "4 also refuses one on an ungrouped device, past its last write or with a payload that no such group gives"
+  -- Ticket 10: "4 also refuses one on an ungrouped device, past its last write or with a payload that no such group gives". What a
+  -- group gives is asked of a good plan: over another 1, 2 or 17 comes first
   groupingAlone : (i made : ℕ) → d .phase ≡ Grouping i made → d .plan .grouped ≡ false → BadDevice d image 4
   groupingNone : (i made : ℕ) → GoodPlan (d .plan) → d .phase ≡ Grouping i made
       → ((g : List ℕ) (ms : List Write) → ¬ Gives (d .plan) (d .payload) g ms) → BadDevice d image 4
