@@ -121,7 +121,7 @@ module _ (p : Plan) (ok : PlanOk p) (before : List ℕ) where
   pub ends-cold : (cs : List Call) (bytes : List ℕ) (l : Ledger) (o : Outcome) → Inv p before l o → Closes bytes cs o
       → after p l (closedBy bytes cs) .job ≡ cold
   ends-cold cs bytes l o inv e =
-      rw (after-snoc cs (cut bytes) l) (cut-leaves-cold (after p l cs) bytes (sym (closing cs bytes l o inv) ∙ e))
+      ap (λ (x : Ledger). x .job) (after-snoc cs (cut bytes) l) ∙ cut-leaves-cold (after p l cs) bytes (sym (closing cs bytes l o inv) ∙ e)
 
   -- and it is accepted exactly if it has as many bytes as a page
   cut-accepted : (cs : List Call) (bytes : List ℕ) (l : Ledger) (o : Outcome) → Inv p before l o
