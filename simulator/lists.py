@@ -11,7 +11,8 @@ import random
 import sys
 from typing import NamedTuple
 
-LIMIT = 4000  # the bytes of a list's calls stay below this
+LIMIT = 4000  # the bytes of a list's calls stay below this, without what
+ROLE_LIMIT = 2000  # roles add to them, which stays below this
 
 # Cut bytes worth more than others: the marker codes, their sums, all, none.
 TELLING_BYTES = (0x00, 0x01, 0x02, 0x03, 0x04, 0x05, 0x06, 0x07, 0xFF)
@@ -20,6 +21,17 @@ PAGES = (1, 4, 8, 16)
 WRONG_PAGES = (0, 2, 3, 5, 12, 17, 32, 255)
 
 BEGIN, CUT, WAKE, RIDE, GROUP, STEP = 1, 2, 3, 4, 5, 0
+
+# The roles are numbered as their rights come in a list: rider, gym, service.
+ROLES = (0, 1, 2)
+BEGINS = (8, 9, BEGIN)
+READS = (17, 18, 16)
+
+NOTHING, SEE, WRITE = 0, 1, 2
+NO_RIGHTS = (3, 3, 4, 7, 129, 254, 255, 255)  # other bytes that are nothing too
+
+# Kinds that are steps, close to those that aren't.
+NEAR_KINDS = (6, 7, 10, 11, 15, 19, 24, 136, 144)
 
 
 class Plan(NamedTuple):
@@ -334,6 +346,124 @@ def scenes(rng, plan):
     return kinds
 
 
+# -------------------------------------------------------------------- roles
+# All that roles add to a list. They have random numbers of their own, so that
+# the calls between which they come are those of the same seed without roles.
+
+def some_rights(rng):
+    """A row for each role, a byte for each unit. Mostly someone may write a
+    unit and someone else may not; now and then only service may, and all, and
+    now and then a byte is no right."""
+    if rng.random() < 0.1:
+        return [bytes(8), bytes(8), bytes((WRITE,)) * 8]
+    rows = [[rng.choice((NOTHING, NOTHING, SEE, SEE, WRITE)) for _ in range(8)] for _ in ROLES]
+    for unit in range(8):
+        if rng.random() < 0.9:
+            rows[rng.choice(ROLES)][unit] = WRITE
+    if rng.random() < 0.3:
+        for _ in range(rng.randint(1, 8)):
+            rows[rng.choice(ROLES)][rng.randrange(8)] = rng.choice(NO_RIGHTS)
+    return list(map(bytes, rows))
+
+
+def writers(rights, unit):
+    return [role for role in ROLES if rights[role][unit % 8] == WRITE]
+
+
+def read(rng, plan):
+    """By any role, mostly of a unit that is there; own bytes are for nothing."""
+    count = len(plan.widths)
+    unit = rng.randrange(count)
+    if rng.random() < 0.12:
+        unit = rng.choice((count, count + 1, 7, 8, 255, 256, 256 + unit, 65535))
+    own = rng.randbytes(rng.choice((1, 2, 8))) if rng.random() < 0.04 else b""
+    return call(rng.choice(READS), own, unit)
+
+
+def reads(rng, plan, most):
+    return [read(rng, plan) for _ in range(rng.randint(1, most))]
+
+
+def begin_by(rng, plan, role, unit):
+    """At times of a wrong length, which is told only to those who may write."""
+    width = plan.widths[unit]
+    if rng.random() < 0.25:
+        width = rng.choice((0, width - 1, width + 1))
+    return call(BEGINS[role], payload(rng, width), unit)
+
+
+def lacking_begin(rng, plan, rights):
+    """By one who may not write that unit, if there is such; of the record too."""
+    unit = rng.randrange(len(plan.widths))
+    others = [role for role in ROLES if role not in writers(rights, unit)]
+    return begin_by(rng, plan, rng.choice(others or ROLES), unit)
+
+
+def errand(rng, plan, rights):
+    """A whole write by one who may, if there is such, and reads of it."""
+    units = [unit for unit in plan.members() if stores(plan.widths[unit]) < 40]
+    if not units:
+        return []
+    unit = rng.choice(units)
+    role = rng.choice(writers(rights, unit) or ROLES)
+    begun = call(BEGINS[role], payload(rng, plan.widths[unit]), unit)
+    return ([begun] + steps(rng, stores(plan.widths[unit]))
+            + [call(kind, unit=unit) for kind in rng.sample(READS, rng.randint(0, 3))])
+
+
+def visit(rng, plan, rights):
+    """Where the device is likely Ready: reads, and begins that leave it so."""
+    calls = reads(rng, plan, 4)
+    while rng.random() < 0.45:
+        calls.append(lacking_begin(rng, plan, rights))
+    if rng.random() < 0.3:
+        calls += errand(rng, plan, rights)
+    return calls
+
+
+def before_call(rng, plan, rights, kind):
+    """What roles do before a call of this kind, mostly nothing. Before a wake
+    the device is likely Cold, and before a step it is likely storing."""
+    if kind in (BEGIN, RIDE, GROUP) and rng.random() < 0.3:
+        return visit(rng, plan, rights)
+    if rng.random() < (0.2 if kind in (WAKE, CUT) else 0.01):
+        return reads(rng, plan, 2)
+    if kind == STEP and rng.random() < 0.005:
+        return [begin_by(rng, plan, rng.choice(ROLES), rng.randrange(len(plan.widths)))]
+    return []
+
+
+def cast(rng, rights, one):
+    """The call itself, a begin by a role that mostly may."""
+    if one[0] == BEGIN:
+        unit = int.from_bytes(one[1:3], "big")
+        roles = writers(rights, unit) if rng.random() < 0.8 else []
+        return bytes((BEGINS[rng.choice(roles or ROLES)],)) + one[1:]
+    if one == call(STEP) and rng.random() < 0.01:
+        return call(rng.choice(NEAR_KINDS))
+    return one
+
+
+def with_roles(rng, plan, rights, calls, most):
+    """The calls with roles, and what roles do before, between and after them,
+    as long as there is room for it."""
+    played, length = [], 0
+
+    def add(more):
+        nonlocal length
+        for one in more:
+            if length + len(one) < most:
+                played.append(one)
+                length += len(one)
+
+    for one in calls:
+        add(before_call(rng, plan, rights, one[0]))
+        played.append(cast(rng, rights, one))
+    # Many lists end in Ready.
+    add(visit(rng, plan, rights))
+    return played
+
+
 # -------------------------------------------------------------------- plans
 
 def some_width(rng, page):
@@ -381,9 +511,10 @@ class Head(NamedTuple):
     image: int
     refused: bool
 
-    def before(self, calls):
+    def before(self, rights, calls):
         return (bytes((self.count,)) + b"".join(map(two, self.widths))
-                + bytes((self.page, self.grouped)) + two(self.image) + two(len(calls)))
+                + bytes((self.page, self.grouped)) + b"".join(rights)
+                + two(self.image) + two(len(calls)))
 
 
 def some_head(rng, plan):
@@ -422,10 +553,10 @@ def some_calls(rng, plan, most):
             scene += settle(rng, plan)
         for one in scene:
             if length + len(one) >= most:
-                return b"".join(calls)
+                return calls
             calls.append(one)
             length += len(one)
-    return b"".join(calls)
+    return calls
 
 
 def generate(seed):
@@ -434,10 +565,15 @@ def generate(seed):
     head = some_head(rng, plan)
     # Room is left for the bytes below; where all is refused, few calls will do.
     calls = some_calls(rng, plan, 400 if head.refused else LIMIT - 16)
+    rest = b""
     if rng.random() < 0.1:  # too few bytes for one more call
-        calls += rng.choice((b"\x00", b"\x03\x00\x00\x00", call(CUT, b"\x00" * 4)[:-1],
-                             b"\x00\x00\x00\x00\x01", b"\x05\x00\x00\xff\xff\x00\x01"))
-    return head.before(calls) + calls
+        rest = rng.choice((b"\x00", b"\x03\x00\x00\x00", call(CUT, b"\x00" * 4)[:-1],
+                           b"\x00\x00\x00\x00\x01", b"\x05\x00\x00\xff\xff\x00\x01"))
+    rng = random.Random(f"roles {seed}")
+    rights = some_rights(rng)
+    calls = with_roles(rng, plan, rights, calls, 100 if head.refused else ROLE_LIMIT)
+    calls = b"".join(calls) + rest
+    return head.before(rights, calls) + calls
 
 
 def main(arguments):

@@ -8,10 +8,10 @@
 //!
 //! With the argument `looks` a script may also ask for what no bench script
 //! reaches: the brake drive, read and inspect. With `lists` it plays lists of
-//! calls in a binary form, rides and groups among them, and with `together` it
-//! tells what stands after a power cut at every place of a group. With
-//! `--selftest` it tries itself on cases worked out by hand, and the claims
-//! about groups on lists made at random.
+//! calls in a binary form, rides, groups and the three roles among them, and
+//! with `together` it tells what stands after a power cut at every place of a
+//! group. With `--selftest` it tries itself on cases worked out by hand, and
+//! the claims about groups and roles on lists made at random.
 
 use std::io::{self, Read, Write};
 use std::ops::{Range, RangeInclusive};
@@ -40,6 +40,7 @@ enum Refusal {
     NotMembers = 19,
     TwiceOrRecord = 20,
     NoRoom = 21,
+    NoRight = 22,
 }
 
 type Answer = Result<(), Refusal>;
@@ -53,8 +54,8 @@ fn number(answer: Answer) -> u8 {
 
 /// Refuses when the condition holds. Each call lists its refusals in the order
 /// in which they are tested, so that the first one met is given: 1 to 10 in
-/// rising order, 14 and 16 after 5, 15 after 8, 17 after 2, 18 after 4, and 19
-/// to 21 after 6.
+/// rising order, 14 and 16 after 5, 15 after 8, 17 after 2, 18 after 4, 19 to
+/// 21 after 6, and 22 after those.
 fn refuse_if(condition: bool, refusal: Refusal) -> Answer {
     if condition {
         Err(refusal)
@@ -265,6 +266,40 @@ fn split<'a>(plan: &Plan, mut bytes: &'a [u8]) -> Option<Vec<Member<'a>>> {
     Some(members)
 }
 
+// ------------------------------------------------------------------- roles
+
+/// "Begin and read take one of three roles"; the value is its row of rights.
+#[derive(Clone, Copy, PartialEq, Debug)]
+enum Role {
+    Rider = 0,
+    Gym = 1,
+    Service = 2,
+}
+
+const ROLES: [Role; 3] = [Role::Rider, Role::Gym, Role::Service];
+
+/// "Nothing, see, or see and write", each with all that those before it allow.
+#[derive(Clone, Copy, PartialEq, PartialOrd, Debug)]
+enum Right {
+    Nothing,
+    See,
+    SeeAndWrite,
+}
+
+/// "A table .. gives each role, per unit". Units past the count are not looked
+/// at.
+type Rights = [[Right; MAX_UNITS]; ROLES.len()];
+
+/// What a refused start returns, "all nothing".
+const NO_RIGHTS: Rights = [[Right::Nothing; MAX_UNITS]; ROLES.len()];
+
+/// "The bench is service, with every right"; nobody else is there.
+const BENCH_RIGHTS: Rights = {
+    let mut rights = NO_RIGHTS;
+    rights[Role::Service as usize] = [Right::SeeAndWrite; MAX_UNITS];
+    rights
+};
+
 // ------------------------------------------------------------------ device
 
 #[derive(Clone, PartialEq, Debug)]
@@ -272,6 +307,8 @@ struct Device {
     plan: Plan,
     /// "A device may be started as grouped".
     grouped: bool,
+    /// "Set at start .. and kept": no call changes them.
+    rights: Rights,
     payload: [u8; MAX_WIDTH],
     phase: Phase,
     /// "A 32-bit count of completed stores", which holds at the greatest.
@@ -301,6 +338,11 @@ impl Device {
         };
         let out_of_range = unit >= self.plan.count || made >= total(self.plan.width(unit));
         refuse_if(out_of_range, Refusal::PhaseOutOfRange)
+    }
+
+    /// "22 when the right is lacking". The unit is one of the plan's.
+    fn check_right(&self, role: Role, unit: usize, wanted: Right) -> Answer {
+        refuse_if(self.rights[role as usize][unit] < wanted, Refusal::NoRight)
     }
 
     fn marker(&self, unit: usize, image: &[u8]) -> u8 {
@@ -476,11 +518,14 @@ impl Device {
 // ------------------------------------------------------------------- calls
 // Each changes the device and the image only if it is accepted.
 
-/// A refused start gives a device without units, and an ungrouped one.
-fn start(plan: Plan, grouped: bool) -> (Answer, Device) {
+/// A refused start gives a device without units, an ungrouped one on which
+/// nobody has a right.
+fn start(plan: Plan, grouped: bool, rights: Rights) -> (Answer, Device) {
     let answer = plan.check();
-    let (plan, grouped) = if answer.is_ok() { (plan, grouped) } else { (Plan::NONE, false) };
-    (answer, Device { plan, grouped, payload: [0; MAX_WIDTH], phase: Phase::Cold, stores: 0 })
+    let (plan, grouped, rights) =
+        if answer.is_ok() { (plan, grouped, rights) } else { (Plan::NONE, false, NO_RIGHTS) };
+    let (payload, phase) = ([0; MAX_WIDTH], Phase::Cold);
+    (answer, Device { plan, grouped, rights, payload, phase, stores: 0 })
 }
 
 /// "Format sets the filler to zero", with all else but the markers.
@@ -499,13 +544,15 @@ fn format(device: &mut Device, image: &mut [u8]) -> Answer {
 }
 
 /// A grouped device's last unit "takes no ordinary begin": 20, tested after 6
-/// and so before 7.
-fn begin(device: &mut Device, image: &[u8], unit: usize, payload: &[u8]) -> Answer {
+/// and so before 7. The right to write is "tested after 6 and any group check",
+/// so between 20 and 7.
+fn begin(device: &mut Device, image: &[u8], role: Role, unit: usize, payload: &[u8]) -> Answer {
     device.check(image)?;
     let plan = device.plan;
     refuse_if(device.phase != Phase::Ready, Refusal::WrongPhase)?;
     refuse_if(unit >= plan.count, Refusal::NoSuchUnit)?;
     refuse_if(device.record_unit() == Some(unit), Refusal::TwiceOrRecord)?;
+    device.check_right(role, unit, Right::SeeAndWrite)?;
     refuse_if(payload.len() != plan.width(unit), Refusal::PayloadLength)?;
     refuse_if(device.marker(unit, image) != OK, Refusal::MarkerNotOk)?;
     device.take_payload(payload);
@@ -584,11 +631,18 @@ fn cut(device: &mut Device, image: &mut [u8], given: &[u8]) -> Answer {
 // ------------------------------------------------------------------- looks
 // Calls that only look: they change neither the device nor the image.
 
-/// Copy A of the unit, as the image has it, without filler.
-fn read<'a>(device: &Device, image: &'a [u8], unit: usize) -> Result<&'a [u8], Refusal> {
+/// Copy A of the unit, as the image has it, without filler. The right to see
+/// comes before the marker, so whoever lacks it isn't told of that either.
+fn read<'a>(
+    device: &Device,
+    image: &'a [u8],
+    role: Role,
+    unit: usize,
+) -> Result<&'a [u8], Refusal> {
     device.check(image)?;
     refuse_if(device.phase != Phase::Ready, Refusal::WrongPhase)?;
     refuse_if(unit >= device.plan.count, Refusal::NoSuchUnit)?;
+    device.check_right(role, unit, Right::See)?;
     refuse_if(device.marker(unit, image) != OK, Refusal::MarkerNotOk)?;
     Ok(&image[device.plan.copy_a(unit)])
 }
@@ -897,7 +951,7 @@ fn play<W: Write>(script: &[u8], mode: Mode, printer: &mut Printer<W>) -> io::Re
     let mut numbered = (1..).zip(lines(script));
     let Some((_, first)) = numbered.next() else { return Ok(()) };
     let Some(plan) = parse_plan(first) else { return printer.word("bad", 1) };
-    let (mut device, mut image) = match lay_out(plan, false) {
+    let (mut device, mut image) = match lay_out(plan, false, BENCH_RIGHTS) {
         Ok(laid_out) => laid_out,
         Err(refusal) => return printer.word("plan", refusal as usize),
     };
@@ -914,8 +968,8 @@ fn play<W: Write>(script: &[u8], mode: Mode, printer: &mut Printer<W>) -> io::Re
 /// Start and format, over an image of exactly the units' length, with filler.
 /// The image is given other bytes than zeros first, for format to have
 /// something to do.
-fn lay_out(plan: Plan, grouped: bool) -> Result<(Device, Vec<u8>), Refusal> {
-    let (answer, mut device) = start(plan, grouped);
+fn lay_out(plan: Plan, grouped: bool, rights: Rights) -> Result<(Device, Vec<u8>), Refusal> {
+    let (answer, mut device) = start(plan, grouped, rights);
     answer?;
     let mut image = vec![0xff; plan.image_length()];
     format(&mut device, &mut image)?;
@@ -931,7 +985,7 @@ fn run<W: Write>(
 ) -> io::Result<()> {
     let (word, answer) = match form {
         Form::Write { unit, payload } => {
-            ("write", begin(device, image, usize::from(unit), &payload))
+            ("write", begin(device, image, Role::Service, usize::from(unit), &payload))
         }
         Form::Step { times } => ("step", steps(device, image, times)),
         Form::Cut { given } => ("cut", cut(device, image, &given)),
@@ -958,7 +1012,7 @@ fn run_look<W: Write>(
         Look::Drive { level, rate } => printer.line(&drive_line(drive(level, rate))),
         Look::Drives => (1..=MAX_LEVEL).try_for_each(|level| printer.line(&level_line(level))),
         Look::Read { unit } => {
-            printer.line(&read_line(read(device, image, usize::from(unit))))
+            printer.line(&read_line(read(device, image, Role::Service, usize::from(unit))))
         }
         Look::Inspect => printer.line(&inspect_line(inspect(device, image))),
         Look::Set { place, byte } => {
@@ -1019,19 +1073,20 @@ fn play_input(mode: Mode) -> io::Result<()> {
 }
 
 // ------------------------------------------------------------------- lists
-// Lists of calls in a binary form, with rides and groups, which have no form
-// in a bench script.
+// Lists of calls in a binary form, with rides, groups and roles, which have no
+// form in a bench script.
 
 /// What every byte of a list's image is before format.
 const FOUND: u8 = 0x77;
 
 #[derive(Clone, Debug)]
 enum Call {
-    Begin { unit: usize, payload: Vec<u8> },
+    Begin { role: Role, unit: usize, payload: Vec<u8> },
     Cut { given: Vec<u8> },
     Wake,
     Ride { turns: u64 },
     Group { bytes: Vec<u8> },
+    Read { role: Role, unit: usize },
     Step,
 }
 
@@ -1043,17 +1098,19 @@ impl Call {
             Call::Wake => "wake",
             Call::Ride { .. } => "ride",
             Call::Group { .. } => "group",
+            Call::Read { .. } => "read",
             Call::Step => "step",
         }
     }
 
     fn make(&self, device: &mut Device, image: &mut [u8]) -> Answer {
         match self {
-            Call::Begin { unit, payload } => begin(device, image, *unit, payload),
+            Call::Begin { role, unit, payload } => begin(device, image, *role, *unit, payload),
             Call::Cut { given } => cut(device, image, given),
             Call::Wake => wake(device, image),
             Call::Ride { turns } => ride(device, image, *turns),
             Call::Group { bytes } => group(device, image, bytes),
+            Call::Read { role, unit } => read(device, image, *role, *unit).map(|_| ()),
             Call::Step => step(device, image),
         }
     }
@@ -1087,13 +1144,27 @@ impl<'a> Input<'a> {
         let length = usize::from(self.two()?);
         let own = self.bytes(length)?;
         Some(match kind {
-            1 => Call::Begin { unit, payload: own.to_vec() },
+            1 => Call::Begin { role: Role::Service, unit, payload: own.to_vec() },
+            8 => Call::Begin { role: Role::Rider, unit, payload: own.to_vec() },
+            9 => Call::Begin { role: Role::Gym, unit, payload: own.to_vec() },
             2 => Call::Cut { given: own.to_vec() },
             3 => Call::Wake,
             4 => Call::Ride { turns: own.first_chunk().map_or(0, |&own| u64::from_le_bytes(own)) },
             5 => Call::Group { bytes: own.to_vec() },
+            16 => Call::Read { role: Role::Service, unit },
+            17 => Call::Read { role: Role::Rider, unit },
+            18 => Call::Read { role: Role::Gym, unit },
             _ => Call::Step,
         })
+    }
+
+    /// The rider's, the gym's and the service's, a byte for each unit.
+    fn rights(&mut self) -> Option<Rights> {
+        let mut rights = NO_RIGHTS;
+        for right in rights.as_flattened_mut() {
+            *right = right_of_byte(self.byte()?);
+        }
+        Some(rights)
     }
 
     fn list(&mut self) -> Option<List> {
@@ -1104,18 +1175,28 @@ impl<'a> Input<'a> {
         }
         let plan = Plan { count, widths, page: usize::from(self.byte()?) };
         let grouped = self.byte()? != 0;
+        let rights = self.rights()?;
         let image_length = usize::from(self.two()?);
         let length = usize::from(self.two()?);
         let mut own = Input { rest: self.bytes(length)? };
         // What is too short for a call ends the list and is none.
         let calls = std::iter::from_fn(|| own.call()).collect();
-        Some(List { plan, grouped, image_length, calls })
+        Some(List { plan, grouped, rights, image_length, calls })
+    }
+}
+
+fn right_of_byte(byte: u8) -> Right {
+    match byte {
+        1 => Right::See,
+        2 => Right::SeeAndWrite,
+        _ => Right::Nothing,
     }
 }
 
 struct List {
     plan: Plan,
     grouped: bool,
+    rights: Rights,
     image_length: usize,
     calls: Vec<Call>,
 }
@@ -1135,8 +1216,20 @@ fn phase_words(phase: Phase) -> String {
     }
 }
 
-/// A call's line: its word and number, and the phase and the count after it.
+/// Two digits for each byte, with a space between.
+fn plain(bytes: &[u8]) -> String {
+    bytes.iter().map(|byte| format!("{byte:02x}")).collect::<Vec<_>>().join(" ")
+}
+
+/// A call's line: its word and number, and the phase and the count after it. A
+/// read, which changes neither, has the bytes read instead, if there are any.
 fn call_line(call: &Call, device: &mut Device, image: &mut [u8]) -> String {
+    if let Call::Read { role, unit } = call {
+        return match read(device, image, *role, *unit) {
+            Ok(bytes) => format!("read 0 {}", plain(bytes)),
+            Err(refusal) => format!("read {}", refusal as u8),
+        };
+    }
     let answer = number(call.make(device, image));
     format!("{} {answer} {} {}", call.word(), phase_words(device.phase), device.stores)
 }
@@ -1144,7 +1237,7 @@ fn call_line(call: &Call, device: &mut Device, image: &mut [u8]) -> String {
 /// Plays one list, which goes on after a refused start and a refused format.
 fn play_list<W: Write>(list: &List, printer: &mut Printer<W>) -> io::Result<()> {
     let mut image = vec![FOUND; list.image_length];
-    let (answer, mut device) = start(list.plan, list.grouped);
+    let (answer, mut device) = start(list.plan, list.grouped, list.rights);
     printer.word("start", usize::from(number(answer)))?;
     let answer = format(&mut device, &mut image);
     printer.word("format", usize::from(number(answer)))?;
@@ -1214,10 +1307,11 @@ struct Console {
 impl Console {
     /// The three units written one after the other, then the group begun.
     fn in_group(page: u16) -> Result<Console, Refusal> {
-        let (device, image) = lay_out(Plan::from_script(&TOGETHER_WIDTHS, page), true)?;
+        let plan = Plan::from_script(&TOGETHER_WIDTHS, page);
+        let (device, image) = lay_out(plan, true, BENCH_RIGHTS)?;
         let mut console = Console { device, image };
         for (unit, payload) in TOGETHER_OLD.into_iter().enumerate().take(3) {
-            begin(&mut console.device, &console.image, unit, payload)?;
+            begin(&mut console.device, &console.image, Role::Service, unit, payload)?;
             console.step_to_end();
         }
         group(&mut console.device, &console.image, &TOGETHER_GROUP)?;
@@ -1245,7 +1339,7 @@ impl Console {
     fn power_cut(&mut self, byte: u8) -> Answer {
         let plan = self.device.plan;
         cut(&mut self.device, &mut self.image, &vec![byte; plan.page])?;
-        let (answer, device) = start(plan, true);
+        let (answer, device) = start(plan, true, BENCH_RIGHTS);
         self.device = device;
         answer?;
         wake(&mut self.device, &self.image)
@@ -1737,10 +1831,15 @@ const LOOK_LINES: [&str; 5] =
 ///   does so in the payload;
 /// - `cold`, `ready`, `writing U N`, `recovering U N` (A to B), `grouping W N`,
 ///   `stores N` and `ungrouped` change the device by hand;
+/// - `ROLE rights N ..` gives a role rights by hand, unit after unit as a list
+///   has them, and nothing on those left;
 /// - `image` gives the whole image, a space between pages, and `payload` the
 ///   payload up to its last byte that isn't 0.
 ///
-/// `step N` makes N steps and gives the last one's line; `HH*N` is N bytes HH.
+/// `ROLE` is `rider`, `gym` or `service`. `ROLE begin ..` and `ROLE read U` are
+/// calls of a list; a begin without a role is by service, who has every right
+/// at first, and `read U` without one is a line of the mode `looks`. `step N`
+/// makes N steps and gives the last one's line; `HH*N` is N bytes HH.
 type GroupCase = (&'static [u16], u16, bool, &'static [(&'static str, &'static str)]);
 
 const GROUP_CASES: &[GroupCase] = &[
@@ -2380,36 +2479,197 @@ const GROUP_CASES: &[GroupCase] = &[
     ]),
 ];
 
+/// Ticket 11, in the same words.
+const ROLE_CASES: &[GroupCase] = &[
+    // ---- The plan (1 2 5), grouped: markers at 0, 3 and 8; copies A at 1, 4
+    // and 5, and 9 to 13; copies B at 2, 6 and 7, and 14 to 18.
+    // Every right in every role, in Ready. 20 before 22, whoever asks; 6 before
+    // 22; 22 before 7.
+    (&[1, 2, 5], 1, true, &[
+        ("rider rights 0 1 2", ""),
+        ("gym rights 2 0 1", ""),
+        ("service rights 1 2 0", ""),
+        ("rider read 0", "22"),
+        ("rider read 1", "0 00 00"),
+        ("rider read 2", "0 00 00 00 00 00"),
+        ("gym read 0", "0 00"),
+        ("gym read 1", "22"),
+        ("gym read 2", "0 00 00 00 00 00"),
+        ("service read 0", "0 00"),
+        ("service read 1", "0 00 00"),
+        ("service read 2", "22"),
+        ("rider read 3", "6"),
+        ("gym read 8", "6"),
+        ("service read 65535", "6"),
+        ("rider begin 0 0a", "22 Ready 0"),
+        ("rider begin 0", "22 Ready 0"),
+        ("rider begin 1 0a 0b", "22 Ready 0"),
+        ("rider begin 1 0a", "22 Ready 0"),
+        ("rider begin 2 01 02 03 04 05", "20 Ready 0"),
+        ("rider begin 3 0a", "6 Ready 0"),
+        ("gym begin 1 0a 0b", "22 Ready 0"),
+        ("gym begin 1 0a 0b 0c", "22 Ready 0"),
+        ("gym begin 2 01 02 03 04 05", "20 Ready 0"),
+        ("gym begin 8", "6 Ready 0"),
+        ("gym begin 0", "7 Ready 0"),
+        ("service begin 0 0a", "22 Ready 0"),
+        ("service begin 0 0a 0b", "22 Ready 0"),
+        ("service begin 1 0a", "7 Ready 0"),
+        ("service begin 2 01 02 03 04 05", "20 Ready 0"),
+        ("service begin 2", "20 Ready 0"),
+        ("payload", ""),
+        ("image", "01 00 00 01 00 00 00 00 01 00*10"),
+    ]),
+    // 5 before 6, 20 and 22, in each phase; the rights are kept.
+    (&[1, 2, 5], 1, true, &[
+        ("rider rights 0 1 2", ""),
+        ("gym rights 2 0 1", ""),
+        ("service rights 1 2 0", ""),
+        ("gym begin 0 0a", "0 Writing 0 0 0"),
+        ("rider read 0", "5"),
+        ("gym read 0", "5"),
+        ("rider read 3", "5"),
+        ("rider begin 0", "5 Writing 0 0 0"),
+        ("gym begin 2", "5 Writing 0 0 0"),
+        ("step 5", "0 Ready 5"),
+        ("gym read 0", "0 0a"),
+        ("service read 0", "0 0a"),
+        ("rider read 0", "22"),
+        ("service begin 1 0b 0c", "0 Writing 1 0 5"),
+        ("step 3", "0 Writing 1 3 8"),
+        ("cut 00", "0 Cold 8"),
+        ("service read 1", "5"),
+        ("gym read 1", "5"),
+        ("gym begin 1", "5 Cold 8"),
+        ("wake", "0 Recovering 1 0 BToA 8"),
+        ("service read 1", "5"),
+        ("gym read 1", "5"),
+        ("step 3", "0 Ready 11"),
+        ("rider read 0", "22"),
+        ("rider read 1", "0 00 00"),
+        ("gym read 0", "0 0a"),
+        ("gym read 1", "22"),
+        ("service read 2", "22"),
+        ("gym begin 1 0b 0c", "22 Ready 11"),
+        ("service begin 1 0b 0c", "0 Writing 1 0 11"),
+        ("step 7", "0 Ready 18"),
+        ("rider read 1", "0 0b 0c"),
+        ("group 00 33 00 44", "20 Ready 18"),
+        ("cut 00", "0 Cold 18"),
+        ("wake", "0 Ready 18"),
+        ("gym read 1", "22"),
+        ("gym begin 0 0d", "0 Writing 0 0 18"),
+    ]),
+    // A marker torn by hand: 8 for whoever has the right, 22 for the others,
+    // and 22, 7, 8 in this order. No list has a bad marker in Ready.
+    (&[1, 2, 5], 1, true, &[
+        ("rider rights 0 1 2", ""),
+        ("gym rights 2 0 1", ""),
+        ("service rights 1 2 0", ""),
+        ("set 0 06", ""),
+        ("rider read 0", "22"),
+        ("gym read 0", "8"),
+        ("service read 0", "8"),
+        ("rider begin 0 0a", "22 Ready 0"),
+        ("gym begin 0 0a", "8 Ready 0"),
+        ("gym begin 0", "7 Ready 0"),
+        ("service begin 0 0a", "22 Ready 0"),
+        ("service begin 0", "22 Ready 0"),
+        ("rider read 1", "0 00 00"),
+        ("set 3 ff", ""),
+        ("rider read 1", "8"),
+        ("gym read 1", "22"),
+        ("service read 1", "8"),
+        ("rider begin 1 0a 0b", "22 Ready 0"),
+        ("gym begin 1 0a 0b", "22 Ready 0"),
+        ("service begin 1 0a 0b", "8 Ready 0"),
+        ("set 8 02", ""),
+        ("rider read 2", "8"),
+        ("gym read 2", "8"),
+        ("service read 2", "22"),
+        ("service begin 2 01 02 03 04 05", "20 Ready 0"),
+    ]),
+    // A phase built by hand: 4 before all of it.
+    (&[1, 2, 5], 1, false, &[
+        ("service rights", ""),
+        ("writing 3 0", ""),
+        ("service read 3", "4"),
+        ("rider read 0", "4"),
+        ("gym begin 0 0a", "4 Writing 3 0 0"),
+    ]),
+    // Nobody has a right to anything: rides, groups and inspect ask for none,
+    // and a read of what they wrote does. Ungrouped, the last unit's begin is
+    // 22 too.
+    (&[8, 1, 1, 5], 1, true, &[
+        ("service rights", ""),
+        ("read 0", "22"),
+        ("begin 0 01 02 03 04 05 06 07 08", "22 Ready 0"),
+        ("ride 258", "0 Writing 0 0 0"),
+        ("step 19", "0 Ready 19"),
+        ("service read 0", "22"),
+        ("group 01 33 02 44", "0 Grouping 0 0 19"),
+        ("step 36", "0 Ready 55"),
+        ("service read 1", "22"),
+        ("inspect", "none"),
+        ("set 17 04", ""),
+        ("inspect", "unit 1"),
+        ("group 01 33 02 44", "8 Ready 55"),
+        ("rider rights 1 1 1 1", ""),
+        ("rider read 0", "0 02 01 00 00 00 00 00 00"),
+        ("rider read 1", "8"),
+        ("rider read 2", "0 44"),
+        ("rider read 3", "0 00 00 00 00 00"),
+        ("ungrouped", ""),
+        ("rider begin 3 01 02 03 04 05", "22 Ready 55"),
+        ("gym rights 0 0 0 2", ""),
+        ("gym begin 3 01 02 03 04 05", "0 Writing 3 0 55"),
+    ]),
+    // Pages of 4: a read is copy A without filler, which is at 4 and 5.
+    (&[2, 1], 4, false, &[
+        ("rider rights 2", ""),
+        ("service rights 0 255 2", ""),
+        ("rider begin 0 0a 0b", "0 Writing 0 0 0"),
+        ("step 7", "0 Ready 7"),
+        ("set 6 e1 e2", ""),
+        ("rider read 0", "0 0a 0b"),
+        ("rider read 1", "22"),
+        ("service read 0", "22"),
+        ("service read 1", "22"),
+        ("service read 2", "6"),
+    ]),
+];
+
 /// Input of the mode `lists` in hexadecimal digits, and what it prints; of the
-/// payload up to its last byte that isn't 0.
+/// payload up to its last byte that isn't 0. `S` is the bench's rights: sixteen
+/// bytes 00 for rider and gym, eight 02 for service.
 const LIST_CASES: &[(&str, &str)] = &[
     ("", ""),
     // One unit of width 1, a page of 1, not grouped, an image of 4 bytes, 24
     // bytes of calls: a begin, a step of kind 0, a cut, a wake, and too few
     // bytes for one more.
-    ("01 0001 0000 0000 0000 0000 0000 0000 0000 01 00 0004 0018 \
+    ("01 0001 0000 0000 0000 0000 0000 0000 0000 01 00 S 0004 0018 \
       01 0000 0001 0a  00 0000 0000  02 0000 0001 00  03 0000 0000  00 00",
      "start 0\nformat 0\nbegin 0 Writing 0 0 0\nstep 0 Writing 0 1 1\ncut 0 Cold 1\n\
       wake 0 Recovering 0 0 BToA 1\nimage 02 00 00 77\npayload\n"),
     // Two lists. The first start is refused for its page, the second format
     // for its image; a third list is cut short, first in its calls.
-    ("01 0001 0000 0000 0000 0000 0000 0000 0000 02 01 0003 0005 00 0000 0000 \
-      01 0001 0000 0000 0000 0000 0000 0000 0000 01 00 0002 000a 03 0000 0000 02 0000 0000 \
-      01 0001 0000 0000 0000 0000 0000 0000 0000 01 00 0003 0005 03 0000 00",
+    ("01 0001 0000 0000 0000 0000 0000 0000 0000 02 01 S 0003 0005 00 0000 0000 \
+      01 0001 0000 0000 0000 0000 0000 0000 0000 01 00 S 0002 000a 03 0000 0000 02 0000 0000 \
+      01 0001 0000 0000 0000 0000 0000 0000 0000 01 00 S 0003 0005 03 0000 00",
      "start 17\nformat 1\nstep 1 Cold 0\nimage 77 77 77\npayload\n\
       start 0\nformat 3\nwake 3 Cold 0\ncut 3 Cold 0\nimage 77 77\npayload\n"),
-    // ... and in its first bytes. The unit is looked at by begin alone, high
-    // byte first; kinds 6 and above are steps, and own bytes of theirs are
-    // left unread; image and calls may be of length 0.
-    ("01 0001 0000 0000 0000 0000 0000 0000 0000 01 00 0003 001e \
+    // ... and in its first bytes. The unit is looked at by begin and read
+    // alone, high byte first; the kinds 6 and ff are steps, and own bytes of
+    // theirs are left unread; image and calls may be of length 0.
+    ("01 0001 0000 0000 0000 0000 0000 0000 0000 01 00 S 0003 001e \
       01 0100 0001 0a  06 0000 0002 aabb  01 0000 0001 0b  ff 0102 0001 03  02 ffff 0000 \
-      09 0000 0000 0000 0000 0000 0000 0000 0000 01 01 0000 0000 01 00",
+      09 0000 0000 0000 0000 0000 0000 0000 0000 01 01 S 0000 0000 01 00",
      "start 0\nformat 0\nbegin 6 Ready 0\nstep 5 Ready 0\nbegin 0 Writing 0 0 0\n\
       step 0 Writing 0 1 1\ncut 18 Writing 0 1 1\nimage 02 00 00\npayload 0b\n\
       start 1\nformat 1\nimage\npayload\n"),
     // A grouped plan (8 1 1 5), 17 + 3 + 3 + 11 bytes: a ride of fewer than
     // eight bytes, cut, and one of more than eight, of 2 + 1 × 256 turns.
-    ("04 0008 0001 0001 0005 0000 0000 0000 ffff 01 ff 0022 0025 \
+    ("04 0008 0001 0001 0005 0000 0000 0000 ffff 01 ff S 0022 0025 \
       04 0000 0007 01010101010101  02 0000 0001 00 \
       03 0000 0000  04 0000 0009 020100000000000009",
      "start 0\nformat 0\nride 0 Writing 0 0 0\ncut 0 Cold 0\nwake 0 Ready 0\n\
@@ -2417,12 +2677,41 @@ const LIST_CASES: &[(&str, &str)] = &[
       image 01 00 00 00 00 00 00 00 00 00 00 00 00 00 00 00 00 01 00 00 01 00 00 \
       01 00 00 00 00 00 00 00 00 00 00\npayload 02 01\n"),
     // A group and three of its stores.
-    ("03 0001 0001 0005 0000 0000 0000 0000 0000 01 01 0011 0018 \
+    ("03 0001 0001 0005 0000 0000 0000 0000 0000 01 01 S 0011 0018 \
       05 0007 0004 01440033  00 0000 0000  00 0000 0000  00 0000 0000",
      "start 0\nformat 0\ngroup 0 Grouping 0 0 0\nstep 0 Grouping 0 1 1\n\
       step 0 Grouping 0 2 2\nstep 0 Grouping 0 3 3\n\
       image 01 00 00 01 00 00 02 02 01 00 00 00 00 00 00 00 00\n\
       payload 02 01 44 00 33\n"),
+    // Two units of widths 1 and 2 and each role's rights on them: the rider
+    // sees 0 and writes 1, the gym writes 0 and has nothing on 1, service has
+    // 3 and ff, which are nothing, but would write 2 to 7. The kinds 7, a, f
+    // and 13 are steps. A read looks at both bytes of the unit and at none of
+    // its own, and prints neither phase nor count.
+    ("02 0001 0002 0000 0000 0000 0000 0000 0000 01 00 \
+      0102000000000000 0200000000000000 03ff020202020202 0008 007f \
+      11 0000 0000  11 0001 0000  11 0002 0000  11 0100 0000 \
+      12 0000 0000  12 0001 0000  10 0000 0000  10 0001 0000 \
+      08 0000 0001 aa  09 0001 0002 bbcc  01 0000 0001 aa  01 0001 0002 bbcc \
+      08 0001 0002 bbcc  07 0000 0000  0a 0000 0000  0f 0000 0000  13 0000 0000 \
+      11 0001 0000  00 0000 0000  00 0000 0000  00 0000 0000 \
+      11 0001 0003 020202  09 0000 0001 dd",
+     "start 0\nformat 0\nread 0 00\nread 0 00 00\nread 6\nread 6\n\
+      read 0 00\nread 22\nread 22\nread 22\n\
+      begin 22 Ready 0\nbegin 22 Ready 0\nbegin 22 Ready 0\nbegin 22 Ready 0\n\
+      begin 0 Writing 1 0 0\nstep 0 Writing 1 1 1\nstep 0 Writing 1 2 2\n\
+      step 0 Writing 1 3 3\nstep 0 Writing 1 4 4\nread 5\n\
+      step 0 Writing 1 5 5\nstep 0 Writing 1 6 6\nstep 0 Ready 7\n\
+      read 0 bb cc\nbegin 0 Writing 0 0 7\n\
+      image 01 00 00 01 bb cc bb cc\npayload dd\n"),
+    // A refused start, and one with too short an image: no right is asked for.
+    ("01 0001 0000 0000 0000 0000 0000 0000 0000 02 00 S 0003 000b \
+      11 0000 0000  09 0000 0001 0a \
+      01 0001 0000 0000 0000 0000 0000 0000 0000 01 00 S 0002 000b \
+      11 0000 0000  09 0000 0001 0a \
+      01 0001 0000 0000 0000 0000 0000 0000 0000 01 00 00000000000000",
+     "start 17\nformat 1\nread 1\nbegin 1 Cold 0\nimage 77 77 77\npayload\n\
+      start 0\nformat 3\nread 3\nbegin 3 Cold 0\nimage 77 77\npayload\n"),
 ];
 
 /// The lines of the mode `together`, as runs of letters. The record is 6 wide,
@@ -2452,7 +2741,7 @@ fn played(script: &str, mode: Mode) -> io::Result<String> {
 fn image_left(script: &str) -> Option<String> {
     let mut lines = lines(script.as_bytes());
     let plan = parse_plan(lines.next()?)?;
-    let (mut device, mut image) = lay_out(plan, false).ok()?;
+    let (mut device, mut image) = lay_out(plan, false, BENCH_RIGHTS).ok()?;
     for line in lines {
         let form = parse_form(line, Mode::Bench, image.len())?;
         run(form, &mut device, &mut image, &mut Printer::new(io::sink())).ok()?;
@@ -2469,7 +2758,8 @@ fn in_pages(image: &[u8], page: usize) -> String {
 
 fn device_of(widths: &[u16], page: u16, phase: Phase) -> Device {
     let plan = Plan::from_script(widths, page);
-    Device { plan, grouped: false, payload: [0; MAX_WIDTH], phase, stores: 0 }
+    let rights = BENCH_RIGHTS;
+    Device { plan, grouped: false, rights, payload: [0; MAX_WIDTH], phase, stores: 0 }
 }
 
 /// Bytes written as `HH`, or `HH*N` for N of them.
@@ -2489,15 +2779,39 @@ fn to_last_byte(bytes: &[u8]) -> &[u8] {
     &bytes[..length]
 }
 
-/// Runs one line of a group case and gives what it says, without its word;
-/// none if there is no such line.
+fn role_word(word: &str) -> Option<Role> {
+    match word {
+        "rider" => Some(Role::Rider),
+        "gym" => Some(Role::Gym),
+        "service" => Some(Role::Service),
+        _ => None,
+    }
+}
+
+/// Runs one line of a case and gives what it says, without its word; none if
+/// there is no such line.
 fn group_case_line(line: &str, device: &mut Device, image: &mut [u8]) -> Option<String> {
-    let words: Vec<&str> = line.split(' ').collect();
-    let numbers: Vec<usize> = words[1..].iter().flat_map(|word| word.parse()).collect();
+    let mut words: Vec<&str> = line.split(' ').collect();
+    let role = role_word(words[0]);
+    if role.is_some() {
+        words.remove(0);
+    }
+    let numbers: Vec<usize> = words.get(1..)?.iter().flat_map(|word| word.parse()).collect();
     let call = match (words[0], &numbers[..]) {
         ("begin", [unit, ..]) => {
-            Call::Begin { unit: *unit, payload: byte_words(&words[2..])? }
+            let (role, payload) = (role.unwrap_or(Role::Service), byte_words(&words[2..])?);
+            Call::Begin { role, unit: *unit, payload }
         }
+        ("read", [unit]) if role.is_some() => Call::Read { role: role?, unit: *unit },
+        ("rights", _) => {
+            let row = &mut device.rights[role? as usize];
+            row.fill(Right::Nothing);
+            for (right, &number) in row.iter_mut().zip(&numbers) {
+                *right = right_of_byte(u8::try_from(number).ok()?);
+            }
+            return Some(String::new());
+        }
+        _ if role.is_some() => return None,
         ("cut", _) => Call::Cut { given: byte_words(&words[1..])? },
         ("wake", []) => Call::Wake,
         ("ride", [turns]) => Call::Ride { turns: *turns as u64 },
@@ -2523,7 +2837,9 @@ fn group_case_look(
 ) -> Option<String> {
     let without_word = |said: String| said.split_once(' ').map(|(_, rest)| rest.into());
     match (words[0], numbers) {
-        ("read", [unit]) => return without_word(read_line(read(device, image, *unit))),
+        ("read", [unit]) => {
+            return without_word(read_line(read(device, image, Role::Service, *unit)));
+        }
         ("inspect", []) => return without_word(inspect_line(inspect(device, image))),
         ("format", []) => {
             let answer = number(format(device, image));
@@ -2557,7 +2873,8 @@ fn group_case_look(
 /// bytes of an image are told page by page.
 fn group_case(case: &GroupCase) -> Option<(String, String)> {
     let &(widths, page, grouped, lines) = case;
-    let (mut device, mut image) = lay_out(Plan::from_script(widths, page), grouped).ok()?;
+    let plan = Plan::from_script(widths, page);
+    let (mut device, mut image) = lay_out(plan, grouped, BENCH_RIGHTS).ok()?;
     let (mut got, mut expected) = (String::new(), String::new());
     for (line, says) in lines {
         let said = group_case_line(line, &mut device, &mut image);
@@ -2578,6 +2895,7 @@ fn spelled_out(says: &str) -> String {
 
 /// What the mode `lists` prints for an input in hexadecimal digits.
 fn lists_played(digits: &str) -> io::Result<String> {
+    let digits = digits.replace('S', &("00".repeat(16) + &"02".repeat(8)));
     let digits: Vec<u8> = digits.bytes().filter(|digit| *digit != b' ').collect();
     let halves = digits.iter().map(|&digit| hex_digit(digit).unwrap_or(0));
     let halves: Vec<u8> = halves.collect();
@@ -2597,7 +2915,8 @@ fn lists_played(digits: &str) -> io::Result<String> {
 /// A device case's lines of inspect and of read of unit 0.
 fn looked(device: &Device, image_length: usize) -> String {
     let image = vec![1; image_length];
-    inspect_line(inspect(device, &image)) + "\n" + &read_line(read(device, &image, 0))
+    let read = read(device, &image, Role::Service, 0);
+    inspect_line(inspect(device, &image)) + "\n" + &read_line(read)
 }
 
 /// Every case: its name, what came out and what should have.
@@ -2617,6 +2936,12 @@ fn cases() -> io::Result<Vec<(String, String, String)>> {
         let got = number(cut(&mut device, &mut vec![1; length], &vec![0; bytes]));
         cases.push((format!("cut case {i}"), got.to_string(), answer.to_string()));
     }
+    let all = [[Right::SeeAndWrite; MAX_UNITS]; ROLES.len()];
+    for (page, rights) in [(1, all), (2, NO_RIGHTS)] {
+        let (_, device) = start(Plan::from_script(&[2, 1], page), true, all);
+        let (got, expected) = (format!("{:?}", device.rights), format!("{rights:?}"));
+        cases.push((format!("rights of start with page {page}"), got, expected));
+    }
     for (line, printed) in PLAN_CASES {
         cases.push((line.into(), played(line, Mode::Bench)?, format!("{printed}\n")));
     }
@@ -2635,11 +2960,13 @@ fn cases() -> io::Result<Vec<(String, String, String)>> {
         let got = image_left(&script).unwrap_or_default();
         cases.push((script, got, image.into()));
     }
-    for (i, case) in GROUP_CASES.iter().enumerate() {
+    let group_cases = GROUP_CASES.iter().map(|case| ("group", case));
+    let role_cases = ROLE_CASES.iter().map(|case| ("role", case));
+    for (i, (kind, case)) in group_cases.chain(role_cases).enumerate() {
         let (got, expected) = group_case(case).unwrap_or_default();
         // A plan that is refused would give nothing for both.
         let got = if got.is_empty() { String::from("refused") } else { got };
-        cases.push((format!("group case {i}"), got, expected));
+        cases.push((format!("{kind} case {i}"), got, expected));
     }
     for (digits, printed) in LIST_CASES {
         cases.push((format!("lists {digits}"), lists_played(digits)?, (*printed).into()));
@@ -2674,8 +3001,8 @@ fn cases() -> io::Result<Vec<(String, String, String)>> {
 
 // ------------------------------------------------------------------ claims
 // The claims about lists from a formatted device, tried on lists made at
-// random and on all pairs of cuts in one group. Groups, rides, pages and the
-// count are in them.
+// random and on all pairs of cuts in one group. Groups, rides, pages, roles and
+// the count are in them. Then that of what a role can tell, on pairs of images.
 
 /// Random numbers that are the same in every run.
 struct Random {
@@ -2712,6 +3039,24 @@ impl Random {
     }
 }
 
+/// A table of rights as a list has it.
+type RightBytes = [u8; 3 * MAX_UNITS];
+
+/// Service may all, as on the bench.
+const BENCH_RIGHT_BYTES: RightBytes = {
+    let mut bytes = [0; 3 * MAX_UNITS];
+    let mut i = 2 * MAX_UNITS;
+    while i < bytes.len() {
+        bytes[i] = 2;
+        i += 1;
+    }
+    bytes
+};
+
+fn rights_of_bytes(bytes: &RightBytes) -> Rights {
+    Input { rest: bytes }.rights().unwrap_or(NO_RIGHTS)
+}
+
 /// Which write a ledger is at; the direction of a cleanup is not kept.
 #[derive(Clone, Copy, PartialEq, Debug)]
 enum LedgerPhase {
@@ -2729,6 +3074,8 @@ enum LedgerPhase {
 struct Ledger {
     plan: Plan,
     grouped: bool,
+    /// As a list has them: the rider's, the gym's and the service's.
+    rights: RightBytes,
     phase: LedgerPhase,
     payload: Vec<u8>,
     last: usize,
@@ -2751,11 +3098,12 @@ struct Ledger {
 }
 
 impl Ledger {
-    fn new(plan: Plan, grouped: bool) -> Ledger {
+    fn new(plan: Plan, grouped: bool, rights: RightBytes) -> Ledger {
         let zeros: Vec<Vec<u8>> = (0..plan.count).map(|unit| vec![0; plan.width(unit)]).collect();
         Ledger {
             plan,
             grouped,
+            rights,
             phase: LedgerPhase::Ready,
             payload: Vec::new(),
             last: 0,
@@ -2983,7 +3331,16 @@ impl Ledger {
         0
     }
 
-    fn begin(&mut self, unit: usize, payload: &[u8]) -> u8 {
+    fn right(&self, role: Role, unit: usize) -> u8 {
+        let first = match role {
+            Role::Rider => 0,
+            Role::Gym => 8,
+            Role::Service => 16,
+        };
+        self.rights[first + unit]
+    }
+
+    fn begin(&mut self, role: Role, unit: usize, payload: &[u8]) -> u8 {
         if self.phase != LedgerPhase::Ready {
             return 5;
         }
@@ -2992,6 +3349,9 @@ impl Ledger {
         }
         if self.is_record(unit) {
             return 20;
+        }
+        if self.right(role, unit) != 2 {
+            return 22;
         }
         if payload.len() != self.width(unit) {
             return 7;
@@ -3052,6 +3412,22 @@ impl Ledger {
         0
     }
 
+    fn read(&self, role: Role, unit: usize) -> u8 {
+        if self.phase != LedgerPhase::Ready {
+            return 5;
+        }
+        if unit >= self.plan.count {
+            return 6;
+        }
+        if self.right(role, unit) != 1 && self.right(role, unit) != 2 {
+            return 22;
+        }
+        if unit == self.last && self.marker != 1 {
+            return 8;
+        }
+        0
+    }
+
     /// From a formatted device no marker is foreign, so wake gives no 14.
     fn wake(&mut self) -> u8 {
         if self.phase != LedgerPhase::Cold {
@@ -3068,11 +3444,12 @@ impl Ledger {
     /// Takes a call and gives the number it must answer.
     fn hear(&mut self, call: &Call) -> u8 {
         match call {
-            Call::Begin { unit, payload } => self.begin(*unit, payload),
+            Call::Begin { role, unit, payload } => self.begin(*role, *unit, payload),
             Call::Cut { given } => self.cut(given),
             Call::Wake => self.wake(),
             Call::Ride { turns } => self.ride(*turns),
             Call::Group { bytes } => self.group(bytes),
+            Call::Read { role, unit } => self.read(*role, *unit),
             Call::Step => self.step(),
         }
     }
@@ -3095,10 +3472,10 @@ struct GroupAtHand {
 }
 
 impl Trial {
-    fn new(plan: Plan, grouped: bool) -> Result<Trial, String> {
-        let laid_out = lay_out(plan, grouped);
+    fn new(plan: Plan, grouped: bool, rights: RightBytes) -> Result<Trial, String> {
+        let laid_out = lay_out(plan, grouped, rights_of_bytes(&rights));
         let (device, image) = laid_out.map_err(|refusal| format!("{refusal:?}"))?;
-        let ledger = Ledger::new(plan, grouped);
+        let ledger = Ledger::new(plan, grouped, rights);
         Ok(Trial { device, image, ledger, calls: Vec::new(), group: None })
     }
 
@@ -3116,6 +3493,18 @@ impl Trial {
                 return self.fail("a refused call changed something");
             }
             return Ok(given);
+        }
+        if let Some(Call::Read { role, unit }) = self.calls.last() {
+            let saved = &self.ledger.saved[*unit][..];
+            if read(&self.device, &self.image, *role, *unit) != Ok(saved) {
+                return self.fail("a read does not give what passed");
+            }
+            if (&self.device, &self.image) != (&before.0, &before.1) {
+                return self.fail("a read changed something");
+            }
+        }
+        if self.device.rights != before.0.rights {
+            return self.fail("the rights are not kept");
         }
         self.look_at_group(before.0.phase)?;
         self.look_at_ledger()?;
@@ -3247,10 +3636,11 @@ impl Trial {
     fn fail<T>(&self, what: &str) -> Result<T, String> {
         let plan = &self.device.plan;
         Err(format!(
-            "{what}\nwidths {:?}, page {}, grouped {}\n{:?}\nunits {:?}\n{}",
+            "{what}\nwidths {:?}, page {}, grouped {}\n{:?}\n{:?}\nunits {:?}\n{}",
             &plan.widths[..plan.count],
             plan.page,
             self.device.grouped,
+            self.device.rights,
             self.device.phase,
             plain(&self.image),
             self.calls.iter().map(call_words).collect::<Vec<_>>().join("; "),
@@ -3258,13 +3648,12 @@ impl Trial {
     }
 }
 
-fn plain(bytes: &[u8]) -> String {
-    bytes.iter().map(|byte| format!("{byte:02x}")).collect::<Vec<_>>().join(" ")
-}
-
 fn call_words(call: &Call) -> String {
     match call {
-        Call::Begin { unit, payload } => format!("begin {unit} {}", plain(payload)),
+        Call::Begin { role, unit, payload } => {
+            format!("{role:?} begin {unit} {}", plain(payload))
+        }
+        Call::Read { role, unit } => format!("{role:?} read {unit}"),
         Call::Cut { given } => format!("cut {}", plain(given)),
         Call::Ride { turns } => format!("ride {turns}"),
         Call::Group { bytes } => format!("group {}", plain(bytes)),
@@ -3295,6 +3684,41 @@ fn random_plan(random: &mut Random) -> Plan {
         _ => 1 + all.min(24),
     };
     Plan { count, widths, page: random.of(&PAGE_SIZES) }
+}
+
+/// Often service's alone; otherwise mixed, with bytes that are no right.
+fn random_rights(random: &mut Random) -> RightBytes {
+    if random.one_in(3) {
+        return BENCH_RIGHT_BYTES;
+    }
+    [(); 3 * MAX_UNITS].map(|()| random.of(&[0, 0, 1, 1, 2, 2, 2, 2, 3, 255]))
+}
+
+/// A role, mostly one that may write the unit if there is such.
+fn random_role(random: &mut Random, device: &Device, unit: usize) -> Role {
+    let role = random.of(&ROLES);
+    let may = |role: &Role| {
+        unit < device.plan.count && device.rights[*role as usize][unit] == Right::SeeAndWrite
+    };
+    if random.one_in(4) {
+        return role;
+    }
+    ROLES.into_iter().find(may).unwrap_or(role)
+}
+
+fn random_read(random: &mut Random, plan: &Plan) -> Call {
+    let beyond = usize::from(random.one_in(8));
+    Call::Read { role: random.of(&ROLES), unit: random.below(plan.count + beyond) }
+}
+
+fn random_begin(random: &mut Random, device: &Device) -> Call {
+    let plan = &device.plan;
+    let beyond = usize::from(random.one_in(10));
+    let unit = random.below(plan.count + beyond);
+    let width = if unit < plan.count { plan.width(unit) } else { 1 };
+    let length = if random.one_in(10) { random.below(9) } else { width };
+    let role = random_role(random, device, unit);
+    Call::Begin { role, unit, payload: random.bytes(length) }
 }
 
 /// The bytes of a group, mostly of different units below the record.
@@ -3343,20 +3767,14 @@ fn right_cut(random: &mut Random, length: usize) -> Vec<u8> {
 fn random_call(random: &mut Random, device: &Device, steps_to_a_cut: usize) -> Call {
     let plan = &device.plan;
     let usual = match device.phase {
-        _ if random.one_in(60) => random.below(6),
+        _ if random.one_in(60) => random.below(7),
         Phase::Cold => 3,
-        Phase::Ready => random.of(&[1, 1, 4, 4, 5, 5, 5, 5, 5, 5]),
+        Phase::Ready => random.of(&[1, 1, 1, 4, 4, 5, 5, 5, 5, 5, 5, 6, 6, 6]),
         _ if random.one_in(steps_to_a_cut) => 2,
         _ => 0,
     };
     match usual {
-        1 => {
-            let beyond = usize::from(random.one_in(10));
-            let unit = random.below(plan.count + beyond);
-            let width = if unit < plan.count { plan.width(unit) } else { 1 };
-            let length = if random.one_in(10) { random.below(9) } else { width };
-            Call::Begin { unit, payload: random.bytes(length) }
-        }
+        1 => random_begin(random, device),
         2 => Call::Cut { given: random_cut(random, plan) },
         3 => Call::Wake,
         4 => {
@@ -3364,13 +3782,15 @@ fn random_call(random: &mut Random, device: &Device, steps_to_a_cut: usize) -> C
             Call::Ride { turns: if random.one_in(6) { turns } else { turns % 1000 } }
         }
         5 => Call::Group { bytes: random_group(random, plan) },
+        6 => random_read(random, plan),
         _ => Call::Step,
     }
 }
 
 fn random_trial(random: &mut Random) -> Result<Trial, String> {
     let plan = random_plan(random);
-    let mut trial = Trial::new(plan, !random.one_in(8))?;
+    let grouped = !random.one_in(8);
+    let mut trial = Trial::new(plan, grouped, random_rights(random))?;
     let steps_to_a_cut = random.of(&[10, 30, 60, 60, 100, 150, 400]);
     // In some lists unit 0 is written by rides alone.
     let rides_alone = random.one_in(3);
@@ -3399,7 +3819,7 @@ fn pairs_of_cuts() -> Result<usize, String> {
     let mut pairs = 0;
     for first in 0..=36 {
         for first_byte in 0..8 {
-            let mut trial = Trial::new(plan, true)?;
+            let mut trial = Trial::new(plan, true, BENCH_RIGHT_BYTES)?;
             trial.make(Call::Group { bytes: vec![0x00, 0x33, 0x01, 0x44] })?;
             for _ in 0..first {
                 trial.make(Call::Step)?;
@@ -3409,7 +3829,7 @@ fn pairs_of_cuts() -> Result<usize, String> {
             let calls = trial.calls;
             for second in 0..=most {
                 for second_byte in 0..8 {
-                    let mut trial = Trial::new(plan, true)?;
+                    let mut trial = Trial::new(plan, true, BENCH_RIGHT_BYTES)?;
                     for call in &calls {
                         trial.make(call.clone())?;
                     }
@@ -3430,7 +3850,8 @@ fn pairs_of_cuts() -> Result<usize, String> {
 /// changes nothing, and an accepted one leaves no phase that 4 refuses.
 fn random_device_trial(random: &mut Random) -> Result<(), String> {
     let plan = random_plan(random);
-    let (_, mut device) = start(plan, !random.one_in(4));
+    let grouped = !random.one_in(4);
+    let (_, mut device) = start(plan, grouped, rights_of_bytes(&random_rights(random)));
     device.stores = random.of(&[0, 7, u32::MAX - 1, u32::MAX]);
     let mut image: Vec<u8> = (0..plan.image_length()).map(|_| random.below(5) as u8).collect();
     for unit in 0..plan.count {
@@ -3483,23 +3904,83 @@ fn given_record_trial(device: &Device, bytes: &[u8]) -> Result<(), String> {
     Err(format!("given {given}: widths {:?}, record {}", device.plan.widths, plain(&record)))
 }
 
+/// Two Ready devices alike "in plan, grouping, rights, count and payload, over
+/// images of equal length that are alike in every unit" that a role may see: its
+/// reads and begins, "with steps between", give equal answers, the bytes read
+/// too. Every marker may be bad. Gives the answers of the reads and begins.
+fn pair_of_images_trial(random: &mut Random) -> Result<Vec<u8>, String> {
+    let plan = random_plan(random);
+    let grouped = !random.one_in(3);
+    let (_, mut device) = start(plan, grouped, rights_of_bytes(&random_rights(random)));
+    device.phase = Phase::Ready;
+    device.stores = random.of(&[0, 7, u32::MAX - 1, u32::MAX]);
+    device.payload.copy_from_slice(&random.bytes(MAX_WIDTH));
+    let role = random.of(&ROLES);
+    let length = plan.image_length() + random.below(3);
+    let mut images = [random.bytes(length), random.bytes(length)];
+    let mut first = 0;
+    for unit in 0..plan.count {
+        let end = plan.length(unit + 1);
+        for image in &mut images {
+            image[first] = random.of(&[1, 1, 1, 1, 0, 2, 4, 6, 7, 8, 255]);
+        }
+        if device.rights[role as usize][unit] != Right::Nothing {
+            let [one, other] = &mut images;
+            other[first..end].copy_from_slice(&one[first..end]);
+        }
+        first = end;
+    }
+    let mut devices = [device.clone(), device.clone()];
+    let mut answers = Vec::new();
+    let mut calls = Vec::new();
+    for _ in 0..random.of(&[10, 40, 100]) {
+        let mut call = match devices[0].phase {
+            Phase::Ready if random.one_in(2) => random_begin(random, &device),
+            Phase::Ready => random_read(random, &plan),
+            _ if random.one_in(10) => random_read(random, &plan),
+            _ => Call::Step,
+        };
+        if let Call::Begin { role: asks, .. } | Call::Read { role: asks, .. } = &mut call {
+            *asks = role;
+        }
+        calls.push(call_words(&call));
+        let [one, other] = [0, 1].map(|i| call_line(&call, &mut devices[i], &mut images[i]));
+        if one != other {
+            return Err(format!(
+                "{role:?} is given {one} and {other}\n{device:?}\n{}",
+                calls.join("; ")
+            ));
+        }
+        if !matches!(call, Call::Step) {
+            let number = one.split(' ').nth(1).and_then(|number| number.parse().ok());
+            answers.push(number.unwrap_or(255));
+        }
+    }
+    Ok(answers)
+}
+
 const RANDOM_LISTS: usize = 4000;
 const RANDOM_DEVICES: usize = 200_000;
+const RANDOM_PAIRS: usize = 20_000;
 
 /// Tries the claims; what the lists met is counted, so that none is empty.
 fn try_claims() -> Result<String, String> {
     let mut random = Random { state: 10 };
     let (mut groups, mut cuts, mut torn, mut rewrites) = (0, 0, 0, 0);
+    let (mut reads, mut lacking) = (0, 0);
     for _ in 0..RANDOM_LISTS {
         let trial = random_trial(&mut random)?;
-        let (mut device, mut image) = lay_out(trial.device.plan, trial.device.grouped)
-            .map_err(|refusal| format!("{refusal:?}"))?;
+        let (mut device, mut image) =
+            lay_out(trial.device.plan, trial.device.grouped, trial.device.rights)
+                .map_err(|refusal| format!("{refusal:?}"))?;
         for call in &trial.calls {
             let phase = device.phase;
-            if call.make(&mut device, &mut image).is_err() {
+            if let Err(refusal) = call.make(&mut device, &mut image) {
+                lacking += usize::from(refusal == Refusal::NoRight);
                 continue;
             }
             match call {
+                Call::Read { .. } => reads += 1,
                 Call::Group { .. } => groups += 1,
                 Call::Cut { .. } => {
                     cuts += 1;
@@ -3517,10 +3998,20 @@ fn try_claims() -> Result<String, String> {
     for _ in 0..RANDOM_DEVICES {
         random_device_trial(&mut random)?;
     }
+    let mut answers = Vec::new();
+    for _ in 0..RANDOM_PAIRS {
+        answers.extend(pair_of_images_trial(&mut random)?);
+    }
+    let times = |number: u8| answers.iter().filter(|&&answer| answer == number).count();
     Ok(format!(
         "{RANDOM_LISTS} lists ({groups} groups, {cuts} cuts, {torn} of them in a group phase, \
-         {rewrites} records written again), {pairs} pairs of cuts and {RANDOM_DEVICES} \
-         devices at random, every claim holds"
+         {rewrites} records written again, {reads} reads, {lacking} rights lacking), {pairs} \
+         pairs of cuts, {RANDOM_DEVICES} devices and {RANDOM_PAIRS} pairs of images ({} answers, \
+         {} of them 0, {} of them 8, {} of them 22) at random, every claim holds",
+        answers.len(),
+        times(0),
+        times(8),
+        times(22),
     ))
 }
 

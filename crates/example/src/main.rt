@@ -3,6 +3,8 @@
 // and both come back new.
 use libc::STDOUT_FILENO;
 use model::Plan;
+use model::Role;
+use rights::service_rights;
 use store::Device;
 
 // A formatted device with "turn" saved.
@@ -12,17 +14,20 @@ fn first_save(image: &mut [u8]) -> Device {
         widths: [4, 0, 0, 0, 0, 0, 0, 0],
         page: 1,
         grouped: false,
+        rights: service_rights(),
     };
     let started = Device::start(plan);
     let formatted = started.device.format(&mut image[..]);
-    let begun = formatted.device.begin(&image[..], 0, b"turn");
+    let begun = formatted
+        .device
+        .begin(&image[..], Role::Service, 0, b"turn");
     let saved = begun.device.steps(&mut image[..], 11);
     saved.device
 }
 
 // A save of "gone" that a cut ends after three of its eleven stores; then the console wakes and repairs.
 fn second_save(device: Device, image: &mut [u8]) -> Device {
-    let begun = device.begin(&image[..], 0, b"gone");
+    let begun = device.begin(&image[..], Role::Service, 0, b"gone");
     let halfway = begun.device.steps(&mut image[..], 3);
     let dead = halfway.device.cut(&mut image[..], b"Z");
     let woken = dead.device.wake(&image[..]);
@@ -33,7 +38,7 @@ fn second_save(device: Device, image: &mut [u8]) -> Device {
 fn ride(image: &mut [u8]) {
     let saved = first_save(&mut image[..]);
     let ready = second_save(saved, &mut image[..]);
-    io::write_all(STDOUT_FILENO, ready.read(&image[..], 0));
+    io::write_all(STDOUT_FILENO, ready.read(&image[..], Role::Service, 0));
     io::write_all(STDOUT_FILENO, b"\n");
     // 11, 3 and 5; the torn store doesn't count
     if ready.stores == 19 {
@@ -48,6 +53,7 @@ fn grouped_device(image: &mut [u8]) -> Device {
         widths: [4, 1, 8, 0, 0, 0, 0, 0],
         page: 1,
         grouped: true,
+        rights: service_rights(),
     };
     let started = Device::start(plan);
     let formatted = started.device.format(&mut image[..]);
@@ -68,9 +74,9 @@ fn together(device: Device, image: &mut [u8]) -> Device {
 fn ride_and_rider(image: &mut [u8]) {
     let formatted = grouped_device(&mut image[..]);
     let ready = together(formatted, &mut image[..]);
-    io::write_all(STDOUT_FILENO, ready.read(&image[..], 0));
+    io::write_all(STDOUT_FILENO, ready.read(&image[..], Role::Service, 0));
     io::write_all(STDOUT_FILENO, b" ");
-    io::write_all(STDOUT_FILENO, ready.read(&image[..], 1));
+    io::write_all(STDOUT_FILENO, ready.read(&image[..], Role::Service, 1));
     io::write_all(STDOUT_FILENO, b"\n");
 }
 

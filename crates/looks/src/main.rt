@@ -11,7 +11,9 @@ use libc::STDOUT_FILENO;
 use lookup::plan_number;
 use model::Inspection;
 use model::Plan;
+use model::Role;
 use printing::put_unit;
+use rights::service_rights;
 use script::Form;
 use script::Line;
 use store::Answer;
@@ -67,13 +69,13 @@ fn say_bytes(bytes: &[u8]) {
 }
 
 fn say_part(device: Device, image: &[u8], unit: u16) {
-    let number = device.read_number(image, unit);
+    let number = device.read_number(image, Role::Service, unit);
     if number != 0 {
         say_line(b"read", number);
         return;
     }
     io::write_all(STDOUT_FILENO, b"read 0 ");
-    say_bytes(device.read(image, unit));
+    say_bytes(device.read(image, Role::Service, unit));
     end_word(b")");
 }
 
@@ -204,9 +206,9 @@ fn write(line: &[u8], device: Device, image: &[u8], unit: u16, at: usize, count:
     let mut payload = [0u8; 256];
     script::bytes_into(line, at, count, &mut payload);
     if 256 < count {
-        return device.begin(image, unit, &payload);
+        return device.begin(image, Role::Service, unit, &payload);
     }
-    device.begin(image, unit, &payload[..count])
+    device.begin(image, Role::Service, unit, &payload[..count])
 }
 
 // Cuts the power, with the bytes that a line lists.
@@ -324,6 +326,7 @@ fn plan_of(line: &[u8]) -> Plan {
         widths: [0u16; 8],
         page: 1,
         grouped: false,
+        rights: service_rights(),
     };
     let Line::Is(form) = script::form_of(line) else {
         return none;
@@ -339,6 +342,7 @@ fn plan_of(line: &[u8]) -> Plan {
         widths: script::widths_at(line, at, count),
         page: page,
         grouped: false,
+        rights: service_rights(),
     }
 }
 

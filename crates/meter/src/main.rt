@@ -7,6 +7,8 @@ use brake::drive_over;
 use console::passed;
 use libc::STDOUT_FILENO;
 use model::Plan;
+use model::Role;
+use rights::service_rights;
 use store::Device;
 ghost use mathlib.Core.Path.{_≡_};
 ghost use lib.ListN.{length};
@@ -52,7 +54,7 @@ fn rounds_of(
 {
     let mut round: u16 = 0;
     while round < rounds {
-        let begun = formatted.begin(&image[..], unit, payload);
+        let begun = formatted.begin(&image[..], Role::Service, unit, payload);
         stores_of(begun.device, &mut image[..], pass, count);
         round = round + 1;
     }
@@ -65,6 +67,7 @@ fn play(asked: [u8; 10], image: &mut [u8], payload: &[u8]) {
         widths: [width; 8],
         page: number_of(asked[9], 0),
         grouped: false,
+        rights: service_rights(),
     };
     let started = Device::start(plan);
     let formatted = started.device.format(&mut image[..]);
@@ -84,7 +87,7 @@ fn play(asked: [u8; 10], image: &mut [u8], payload: &[u8]) {
         number_of(asked[5], asked[6]),
         number_of(asked[7], asked[8]),
     );
-    io::write_all(STDOUT_FILENO, device.read(&image[..], unit));
+    io::write_all(STDOUT_FILENO, device.read(&image[..], Role::Service, unit));
     io::write_all(STDOUT_FILENO, b"\n");
 }
 

@@ -4,6 +4,7 @@ use Rattle.model.specs.Marker.{direction, tornBits, torn}
 use Rattle.model.specs.Layout.{wholePages, base, get, put, putPage, copyOf, fresh, formatted}
 use Rattle.model.specs.Groups.{split, joined, splits, memberCount, members, unsplit, among, twice, overlaps, narrow, fits, payloadOf, groupIn, alike, given, stands, remaining, writes, nth, writeAt, isLastWrite}
 use Rattle.model.specs.Turns.{amount}
+use Rattle.model.specs.Rights.{right, mayWrite, maySee}
 use Rattle.model.specs.Refusals.{rideNumber, badCount, badWidths, badPage, badWrite, badJob, first, startNumber, formatNumber, wakeNumber, stepNumber, cutNumber, anyForeign, beginNumber, dirty, groupNumber}
 use Rattle.model.specs.Stores.{copying, writeStores, cleanupStores, stored}
 use Rattle.model.specs.Calls as calls
@@ -61,7 +62,7 @@ unfolding split splits memberCount payloadOf remaining writes
 every-write = refl
 
 pub every-group-number : EveryGroupNumber
-unfolding base wholePages get split joined splits memberCount members unsplit among twice overlaps narrow fits payloadOf groupIn alike given remaining writes nth writeAt badCount badWidths badPage badWrite badJob first stepNumber beginNumber dirty groupNumber fresh formatted startNumber formatNumber calls.start calls.format amount copyOf rideNumber calls.ride
+unfolding base wholePages get split joined splits memberCount members unsplit among twice overlaps narrow fits payloadOf groupIn alike given remaining writes nth writeAt badCount badWidths badPage badWrite badJob first stepNumber beginNumber dirty groupNumber fresh formatted startNumber formatNumber calls.start calls.format amount copyOf rideNumber calls.ride right mayWrite maySee
 every-group-number =
     record {
       two = refl;

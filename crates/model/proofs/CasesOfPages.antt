@@ -2,6 +2,7 @@
 use mathlib.Core.Path.{refl}
 use Rattle.model.specs.Marker.{tornBits, torn}
 use Rattle.model.specs.Layout.{wholePages, base, get, put, putPage, copyOf, fresh, formatted}
+use Rattle.model.specs.Rights.{right, mayWrite, maySee}
 use Rattle.model.specs.Refusals.{badCount, badWidths, badPage, badJob, first, startNumber, formatNumber, stepNumber, cutNumber, inspectNumber, readNumber}
 use Rattle.model.specs.Stores.{copying, writeStores, cleanupStores, stored}
 use Rattle.model.specs.Calls as calls
@@ -24,5 +25,5 @@ unfolding tornBits torn wholePages base get put putPage badCount badWidths badPa
 every-tear = refl
 
 pub every-paged : EveryPaged
-unfolding wholePages base get put copyOf fresh formatted badCount badWidths badPage badJob first formatNumber stepNumber readNumber inspectNumber copying writeStores stored calls.next calls.imageAfter calls.lowestBad calls.format calls.step calls.read calls.inspect
+unfolding wholePages base get put copyOf fresh formatted badCount badWidths badPage badJob first formatNumber stepNumber readNumber inspectNumber copying writeStores stored calls.next calls.imageAfter calls.lowestBad calls.format calls.step calls.read calls.inspect right mayWrite maySee
 every-paged = (refl, refl, refl, refl, refl)

@@ -4,6 +4,7 @@ use Rattle.model.specs.Marker.{direction, tornBits, torn}
 use Rattle.model.specs.Layout.{wholePages, base, get, put, putPage, copyOf, fresh, formatted}
 use Rattle.model.specs.Turns.{amount, inBytes, plus}
 use Rattle.model.specs.Groups.{stands}
+use Rattle.model.specs.Rights.{right, mayWrite, maySee}
 use Rattle.model.specs.Refusals.{badCount, badWidths, badPage, badJob, first, startNumber, formatNumber, wakeNumber, stepNumber, cutNumber, anyForeign, beginNumber, rideNumber, totalNumber}
 use Rattle.model.specs.Stores.{copying, writeStores, cleanupStores, stored}
 use Rattle.model.specs.Calls as calls
@@ -29,9 +30,9 @@ unfolding amount inBytes plus wholePages base get copyOf badCount badWidths badP
 every-ride = (refl, refl, refl, refl)
 
 pub every-total : EveryTotal
-unfolding amount wholePages base get copyOf badCount badWidths badPage badJob first totalNumber calls.totalOf
+unfolding amount wholePages base get copyOf badCount badWidths badPage badJob first totalNumber calls.totalOf right mayWrite maySee
 every-total = refl
 
 pub every-tally : EveryTally
-unfolding amount inBytes plus direction tornBits torn wholePages base get put putPage copyOf fresh formatted badCount badWidths badPage badJob first startNumber formatNumber wakeNumber stepNumber cutNumber anyForeign beginNumber rideNumber copying writeStores cleanupStores stored calls.next calls.imageAfter calls.lowestBad calls.phaseAfter calls.payloadAfter calls.counted calls.start calls.format calls.begin calls.ride calls.step calls.wake calls.resumes stands calls.cut opening markerOf told writeMarker cleanupMarker saving savingAll accepted fed call run passed sum
+unfolding amount inBytes plus direction tornBits torn wholePages base get put putPage copyOf fresh formatted badCount badWidths badPage badJob first startNumber formatNumber wakeNumber stepNumber cutNumber anyForeign beginNumber rideNumber copying writeStores cleanupStores stored calls.next calls.imageAfter calls.lowestBad calls.phaseAfter calls.payloadAfter calls.counted calls.start calls.format calls.begin calls.ride calls.step calls.wake calls.resumes stands calls.cut opening markerOf told writeMarker cleanupMarker saving savingAll accepted fed call run passed sum right mayWrite maySee
 every-tally = refl

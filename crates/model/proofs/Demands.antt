@@ -11,6 +11,8 @@ use lib.ListN.{length, getD, take, drop, replicate, length-set, length-take, len
 use lib.Seq.{length-sets, getD-set-same, getD-set-other, getD-take, getD-drop, getD-append-add, take-all, ext-getD}
 use borrow.Author.Tests.{ne-eqb, lt-ltb, le-ltb, leb-false, ltb-false, lt-leb, le-leb}
 use Rattle.model.specs.declared.Plan.{Plan}
+use Rattle.model.specs.declared.Role.{Role}
+use Rattle.model.specs.declared.Role.the-variants.{Rider, Gym, Service}
 use Rattle.model.specs.declared.Direction.{Direction}
 use Rattle.model.specs.declared.Direction.the-variants.{AToB, BToA}
 use Rattle.model.specs.declared.Phase.{Phase}
@@ -19,6 +21,7 @@ use Rattle.model.specs.Marker.{A, direction, completed, tornBy, tornBits
 use Rattle.model.specs.Layout.{copyA, copyB, Cell, marker, byte, InUnit, width, base, total, place, pageAt, get, put, putPage, copyOf, formatted}
 use Rattle.model.specs.Groups.{Write, last, members, payloadOf, given, stands, writes, writeAt, isLastWrite}
 use Rattle.model.specs.Records.{Gives, WriteOf}
+use Rattle.model.specs.Rights.{right, noRights}
 use Rattle.model.specs.Refusals.{badWrite, groupNumber, writeTotal, cleanupTotal, badJob, isCold, isReady, first, startNumber, formatNumber, beginNumber, stepNumber, wakeNumber, cutNumber, readNumber, inspectNumber, rideNumber, totalNumber}
 use Rattle.model.specs.Turns.{amount, plus}
 use Rattle.model.specs.Stores.{Store, store, source, target, pageLeft, stored}
@@ -29,11 +32,11 @@ use Rattle.model.specs.Demands.{Lies, at, Does, Starts, OneByte, Formats
 use Rattle.model.specs.Demands as demands
 use Rattle.model.proofs.Compare.{below, above, order, equal, differ, same}
 use Rattle.model.proofs.MarkerLaws.{direction-A, direction-other, bits-more}
-use Rattle.model.proofs.RefusalLaws.{first-past, first-skip, first-stop, first-none, or-false, false-or, PlanOk, page-some, past, cut-says, format-says, begin-says, width-bounds}
+use Rattle.model.proofs.RefusalLaws.{first-past, first-skip, first-stop, first-none, or-false, false-or, PlanOk, page-some, past, cut-says, format-says, begin-says, Began, width-bounds}
 use Rattle.model.proofs.LayoutLaws.{place-bound, page-inside, copy-length, copy-byte, get-formatted, formatted-zero, length-formatted, rest-formatted}
 use Rattle.model.proofs.PageLaws.{pages-room, rounded-pages}
 use Rattle.model.proofs.Runs.{sets-below, sets-above, sets-at}
-use Rattle.model.proofs.TurnLaws.{plus-size, plus-small, plus-amount, amount-first, held-amount, ride-says, ride-begins}
+use Rattle.model.proofs.TurnLaws.{plus-size, plus-small, plus-amount, amount-first, held-amount, ride-says, ride-began}
 use Rattle.model.proofs.StoreLaws.{next-A, next-to-A, next-B, next-to-B, next-OK, next-copy, next-settle, write-goes-on, write-ends, cleanup-goes-on, cleanup-ends, cleanup-holds, cleanup-loads, next-task, task-goes-on, task-ends}
 use Rattle.model.proofs.Tasks.{Task, alone, part, phaseAt, taskWrite}
 use Rattle.model.proofs.GroupLaws.{group-says, wide-of, last-lt, part-says, part-sized, padded-size, stands-given}
@@ -63,6 +66,18 @@ lies p =
       all = refl;
     }
 
+-- ---- Start.
+zeros-at : (n i : ℕ) → getD {A = ℕ} (replicate n 0) i 0 ≡ 0
+zeros-at zero i = refl
+zeros-at (suc n) zero = refl
+zeros-at (suc n) (suc i) = zeros-at n i
+
+no-right : (role : Role) (u : ℕ) → right noRights role u ≡ 0
+unfolding right
+no-right Rider u = zeros-at 8 u
+no-right Gym u = zeros-at 8 u
+no-right Service u = zeros-at 8 u
+
 started : (p : Plan) → Starts p (calls.start p)
 unfolding calls.start
 started p = go (startNumber p)
@@ -75,6 +90,7 @@ started p = go (startNumber p)
           widths = λ h. absurd (h refl);
           page = λ h. absurd (h refl);
           ungrouped = λ h. absurd (h refl);
+          rightless = λ h. absurd (h refl);
           phase = refl;
           payload = refl;
           stores = refl;
@@ -86,6 +102,7 @@ started p = go (startNumber p)
           widths = λ h. refl;
           page = λ h. refl;
           ungrouped = λ h. refl;
+          rightless = λ h role u. no-right role u;
           phase = refl;
           payload = refl;
           stores = refl;
@@ -132,17 +149,9 @@ formats d image e =
     }
 
 -- ---- Begin.
-zeros-at : (n i : ℕ) → getD {A = ℕ} (replicate n 0) i 0 ≡ 0
-zeros-at zero i = refl
-zeros-at (suc n) zero = refl
-zeros-at (suc n) (suc i) = zeros-at n i
-
-begins : (d : Device) (image : List ℕ) (u : ℕ) (payload : List ℕ) → beginNumber (view d image) u (length payload) ≡ 0
+begins : (d : Device) (image : List ℕ) (u : ℕ) (payload : List ℕ) → PlanOk (d .plan) → Began (view d image) u (length payload)
     → Begins d image u payload (outcome 0 (asBegun u (padded payload) d) image)
-unfolding beginNumber
-begins d image u payload e =
-    let began = begin-says (view d image) u (length payload) e in
-    let ok = past (view d image) _ e .plan in
+begins d image u payload ok began =
     let narrow : length payload ≤ 256 = omega (arith, began .size, width-bounds (d .plan) ok u (began .unit) .1) in
     record {
       plan = refl;
@@ -158,6 +167,13 @@ begins d image u payload e =
       image′ = refl;
     }
 
+begun-by : (d : Device) (image : List ℕ) (role : Role) (u : ℕ) (payload : List ℕ)
+    → beginNumber (view d image) role u (length payload) ≡ 0
+    → Begins d image u payload (outcome 0 (asBegun u (padded payload) d) image)
+unfolding beginNumber
+begun-by d image role u payload e =
+    begins d image u payload (past (view d image) _ e .plan) (begin-says (view d image) role u (length payload) e)
+
 -- ---- Ride.
 rides : (d : Device) (image : List ℕ) (turns : ℕ) → rideNumber (view d image) (heldIn d image 0) turns ≡ 0
     → Rides d image turns (outcome 0 (asBegun 0 (padded (plus (heldIn d image 0) turns)) d) image)
@@ -167,7 +183,7 @@ rides d image turns e =
     let size : length bytes ≡ 8 = plus-size before turns in
     record {
       bytes = bytes;
-      begins = begins d image 0 bytes (ride-begins (view d image) before turns e);
+      begins = begins d image 0 bytes (ride-says (view d image) before turns e .plan) (ride-began (view d image) before turns e);
       size = size;
       small = λ i h. plus-small before turns i;
       sum = sym (amount-first 8 bytes)
@@ -430,7 +446,7 @@ counts n =
       | above l ↦ rw (le-ltb n mostStores l) (most l)
     ]
 
-steps : (d : Device) (image : List ℕ) → stepNumber (view d image) ≡ 0
+pub steps : (d : Device) (image : List ℕ) → stepNumber (view d image) ≡ 0
     → Steps d image (outcome 0 (stepFrom d (imageAfter completed d image)) (imageAfter completed d image))
 unfolding stepNumber imageAfter stored
 steps d image e =
@@ -555,21 +571,21 @@ cuts d image bytes e =
     go (Grouping i made) now = tears d image bytes e (rw now)
 
 -- ---- Read.
-read-there : (d : Device) (image : List ℕ) (u : ℕ) → readNumber (view d image) u ≡ 0
+read-there : (d : Device) (image : List ℕ) (role : Role) (u : ℕ) → readNumber (view d image) role u ≡ 0
     → PlanOk (d .plan) × (total (d .plan) ≤ length image) × (u < d .plan .count)
 unfolding readNumber
-read-there d image u e =
+read-there d image role u e =
     let h = past (view d image) _ e in
     let h₅ = first-past 4 (not (isReady (jobOf (d .phase)))) _ (h .more) in
     (h .plan, ltb-false (length image) (total (d .plan)) (h .long), leb-false (d .plan .count) u (first-past 5 (leb (d .plan .count) u) _ (h₅ .1) .0))
 
-reads : (d : Device) (image : List ℕ) (u : ℕ) → Reads d image u (calls.read d image u)
+reads : (d : Device) (image : List ℕ) (role : Role) (u : ℕ) → Reads d image role u (calls.read d image role u)
 unfolding calls.read get
-reads d image u = go (readNumber (view d image) u) refl
+reads d image role u = go (readNumber (view d image) role u) refl
   where
-    go : (n : ℕ) → readNumber (view d image) u ≡ n → Reads d image u (partUnlessRefused n (copyOf (d .plan) image u copyA))
+    go : (n : ℕ) → readNumber (view d image) role u ≡ n → Reads d image role u (partUnlessRefused n (copyOf (d .plan) image u copyA))
     go zero e =
-        let h = read-there d image u e in
+        let h = read-there d image role u e in
         record {
           refused = λ q. absurd (q e);
           size = λ z. copy-length (d .plan) (h .0) image u copyA (h .2) (h .1);
@@ -582,11 +598,11 @@ reads d image u = go (readNumber (view d image) u) refl
           bytes = λ z. absurd (omega (arith, z, e));
         }
 
-totals : (d : Device) (image : List ℕ) (u : ℕ) → Totals d image u (calls.totalOf d image u)
+totals : (d : Device) (image : List ℕ) (role : Role) (u : ℕ) → Totals d image role u (calls.totalOf d image role u)
 unfolding calls.totalOf
-totals d image u = go (totalNumber (view d image) u) refl
+totals d image role u = go (totalNumber (view d image) role u) refl
   where
-    go : (n : ℕ) → totalNumber (view d image) u ≡ n → Totals d image u (totalUnlessRefused n (amount (heldIn d image u)))
+    go : (n : ℕ) → totalNumber (view d image) role u ≡ n → Totals d image role u (totalUnlessRefused n (amount (heldIn d image u)))
     go zero e = record { number = sym e; refused = λ q. absurd (q refl); accepted = λ z. held-amount (d .plan) image u }
     go (suc n) e = record { number = sym e; refused = λ q. refl; accepted = λ z. absurd (omega arith) }
 
@@ -609,8 +625,8 @@ every-call d image =
       start = started (d .plan);
       format = does (Formats d image) (formatNumber (view d image)) d image
           (outcome 0 (asFormatted d) (formatted (d .plan) image)) refl (formats d image);
-      begin = λ u payload. does (Begins d image u payload) (beginNumber (view d image) u (length payload)) d image
-          (outcome 0 (asBegun u (padded payload) d) image) refl (begins d image u payload);
+      begin = λ role u payload. does (Begins d image u payload) (beginNumber (view d image) role u (length payload)) d image
+          (outcome 0 (asBegun u (padded payload) d) image) refl (begun-by d image role u payload);
       ride = λ turns. does (Rides d image turns) (rideNumber (view d image) (heldIn d image 0) turns) d image
           (outcome 0 (asBegun 0 (padded (plus (heldIn d image 0) turns)) d) image) refl (rides d image turns);
       group = λ g. does (Groups d image g) (groupNumber (view d image) g) d image

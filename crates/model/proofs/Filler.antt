@@ -10,6 +10,7 @@ use lib.ListN.{length, getD, set, take, getElem?, length-set, List·getD-eq-defa
 use lib.Seq.{sets, getD-set-same, getD-set-other}
 use borrow.Author.Tests.{leb-false, ltb-false}
 use Rattle.model.specs.declared.Plan.{Plan}
+use Rattle.model.specs.declared.Role.{Role}
 use Rattle.model.specs.declared.Phase.{Phase}
 use Rattle.model.specs.declared.Phase.the-variants.{Cold, Ready, Writing, Recovering, Grouping}
 use Rattle.model.specs.Marker.{OK, direction, End, completed, tornBy}
@@ -31,7 +32,7 @@ use Rattle.model.proofs.GroupLaws.{last-lt, group-alike}
 use Rattle.model.proofs.Demands.{find}
 
 -- ---- A store, or a run of stores, in two lists of one length: a place that had the same byte in both has the same still.
-set-same : (x y : List ℕ) (i j v : ℕ) → length x ≡ length y → getD x j 0 ≡ getD y j 0
+pub set-same : (x y : List ℕ) (i j v : ℕ) → length x ≡ length y → getD x j 0 ≡ getD y j 0
     → getD (set x i v) j 0 ≡ getD (set y i v) j 0
 set-same x y i j v e h =
     elim (same j i) [
@@ -201,8 +202,8 @@ module _ (d : Device) (x y : List ℕ) (s : SameCells (d .plan) x y) where
 
   call-same : (c : Call) (n n′ : ℕ) → SameOutcome (call c (outcome n d x)) (call c (outcome n′ d y))
   unfolding call calls.begin calls.ride calls.group calls.step calls.cut calls.wake stepNumber wakeNumber
-  call-same (begin u payload) n n′ =
-      settle _ _ _ _ (begin-alike alike u (length payload)) (λ z. record { number = refl; device = refl; image = s })
+  call-same (begin role u payload) n n′ =
+      settle _ _ _ _ (begin-alike alike role u (length payload)) (λ z. record { number = refl; device = refl; image = s })
   call-same (ride turns) n n′ =
       settle _ _ _ _ (ride-alike alike turns (λ ok long job. first-held ok (alike .short ∙ long)))
       (λ z.
@@ -265,15 +266,15 @@ module _ (d : Device) (x y : List ℕ) (s : SameCells (d .plan) x y) where
   shown-same show nothing hides (suc n) zero e h = absurd (omega arith)
   shown-same show nothing hides (suc n) (suc n′) {a} {b} e h = hides n a ∙ ap (λ (k : ℕ). show k nothing) e ∙ sym (hides n′ b)
 
-  read-same : (u : ℕ) → calls.read d x u ≡ calls.read d y u
+  read-same : (role : Role) (u : ℕ) → calls.read d x role u ≡ calls.read d y role u
   unfolding calls.read readNumber
-  read-same u =
-      shown-same partUnlessRefused [] (λ n a. refl) (readNumber (view d x) u) (readNumber (view d y) u) (read-alike alike u) (read-held u _)
+  read-same role u =
+      shown-same partUnlessRefused [] (λ n a. refl) (readNumber (view d x) role u) (readNumber (view d y) role u) (read-alike alike role u) (read-held u _)
 
-  total-same : (u : ℕ) → calls.totalOf d x u ≡ calls.totalOf d y u
+  total-same : (role : Role) (u : ℕ) → calls.totalOf d x role u ≡ calls.totalOf d y role u
   unfolding calls.totalOf totalNumber
-  total-same u =
-      shown-same totalUnlessRefused 0 (λ n a. refl) (totalNumber (view d x) u) (totalNumber (view d y) u) (total-alike alike u)
+  total-same role u =
+      shown-same totalUnlessRefused 0 (λ n a. refl) (totalNumber (view d x) role u) (totalNumber (view d y) role u) (total-alike alike role u)
       (λ z. ap amount (read-held u _ z))
 
 -- ---- Lists of calls.

@@ -30,7 +30,7 @@ use Rattle.model.proofs.LayoutLaws.{Near, stored-near, stored-marker, c
 use Rattle.model.proofs.MarkerLaws.{torn-A-to-B, direction-A, direction-other}
 use Rattle.model.proofs.StoreLaws.{next-A, next-to-A, next-B, next-to-B, next-OK, next-copy, next-settle, next-task, task-goes-on, task-ends, cleanup-goes-on, cleanup-ends, none-found, lowest-found, task-holds, cleanup-holds, cleanup-loads}
 use Rattle.model.proofs.LedgerLaws.{at, noted, then, decides, own-marker, saving-same, notes-A, notes-byte, notes-B, notes-OK, notes-copy, notes-settle}
-use Rattle.model.proofs.TurnLaws.{ride-alike, ride-begins}
+use Rattle.model.proofs.TurnLaws.{ride-alike, ride-began}
 use Rattle.model.proofs.Tasks.{Task, alone, jobAt, phaseAt, taskWrite, follows, phased-task, part, countsFor, phased-cond}
 use Rattle.model.proofs.Invariant.{Has, Whole, Both, Clean, Frame, Safe, twice, once, Loaded, Starts, idle, still, loaded-follows, follows-starts, Stage, resting, off, opened, toA, toB, mending, phased, job-phased, Inv, source-off-target, both-of, whole-near, frame-near, has-more, all-clean, frame-to, frame-saving, loaded-fine, part-loaded, resumed-starts}
 use Rattle.model.specs.Groups.{write, last, padded, payloadOf, writeAt}
@@ -563,8 +563,7 @@ module _ (p : Plan) (ok : PlanOk p) (before : List ℕ) (l : Ledger) (o : Outcom
       go (mending j hj job mk hs ht) = other-job isReady _ _ r job refl refl
 
   begin-kept : (v : ℕ) (payload : List ℕ) → Began (judged p l) v (length payload)
-      → Inv p before (accepted p l (begin v payload)) (outcome 0 (asBegun v (padded payload) d) image)
-  unfolding accepted
+      → Inv p before (ledger.noted l (refusals.writing v 0) payload) (outcome 0 (asBegun v (padded payload) d) image)
   begin-kept v payload began =
       record {
         plan = inv .plan;
@@ -597,7 +596,7 @@ module _ (p : Plan) (ok : PlanOk p) (before : List ℕ) (l : Ledger) (o : Outcom
       → Inv p before (accepted p l (ride turns)) (outcome 0 (asBegun 0 (padded (plus (heldIn d image 0) turns)) d) image)
   unfolding told accepted
   ride-kept turns h =
-      let began = begin-says (judged p l) 0 _ (ride-begins (judged p l) (l .written 0) turns h) in
+      let began = ride-began (judged p l) (l .written 0) turns h in
       subst (λ (bs : List ℕ). Inv p before (accepted p l (ride turns)) (outcome 0 (asBegun 0 (padded (plus bs turns)) d) image))
       (sym (held-is 0 (count-bounds p ok .0) (began .job)))
       (begin-kept 0 (plus (l .written 0) turns) began)
@@ -661,9 +660,10 @@ module _ (p : Plan) (ok : PlanOk p) (before : List ℕ) (l : Ledger) (o : Outcom
           }
 
   pub keeps : (c : Call) → Agrees (told p l c) (accepted p l c) (call c o)
-  unfolding call calls.begin calls.ride calls.group calls.step calls.cut calls.wake told
-  keeps (begin v payload) =
-      settle _ _ _ _ (begin-alike alike v (length payload)) refl (λ h. begin-kept v payload (begin-says (judged p l) v (length payload) h))
+  unfolding call calls.begin calls.ride calls.group calls.step calls.cut calls.wake told accepted
+  keeps (begin role v payload) =
+      settle _ _ _ _ (begin-alike alike role v (length payload)) refl
+      (λ h. begin-kept v payload (begin-says (judged p l) role v (length payload) h))
   keeps (ride turns) =
       settle _ _ _ _ (ride-alike alike turns (λ fine long. held-is 0 (count-bounds p ok .0))) refl (ride-kept turns)
   keeps (group g) =

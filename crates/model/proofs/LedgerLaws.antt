@@ -221,7 +221,7 @@ module _ (p : Plan) (l : Ledger) (h : l .marker ≤ 7) where
 
   accepted-small : (c : Call) → accepted p l c .marker ≤ 7
   unfolding accepted
-  accepted-small (begin u payload) = h
+  accepted-small (begin role u payload) = h
   accepted-small (ride turns) = h
   accepted-small (group g) = h
   accepted-small step = step-small (l .job)

@@ -13,6 +13,7 @@ pub mod WorkedCases
 pub mod CasesOfRides
 pub mod CasesOfPages
 pub mod CasesOfGroups
+pub mod CasesOfRoles
 pub mod TurnLaws
 pub mod Demands
 pub mod Refuses
@@ -26,5 +27,6 @@ pub mod Theorem
 pub mod Wear
 pub mod Totals
 pub mod Together
+pub mod Roles
 pub mod Restart
 pub mod InARow

@@ -580,8 +580,8 @@ module _ (p : Plan) (ok : PlanOk p) (l : Ledger) (size : length (l .written (las
 
   promise-keeps : (c : Call) → told p l c ≡ 0 → badJob p (l .payload) (l .job) ≡ false → Promised p l → Promised p (accepted p l c)
   unfolding told accepted
-  promise-keeps (ledger.begin u bs) a b h =
-      let g = begin-says (judged p l) u (length bs) a in
+  promise-keeps (ledger.begin role u bs) a b h =
+      let g = begin-says (judged p l) role u (length bs) a in
       let h′ : Promise p ready (l .payload) (l .written) (l .saved) = at-job (g .job) h in
       record { owed = h .owed; zeros = h .zeros; point = (g .other, h′ .point) }
   promise-keeps (ledger.ride turns) a b h =

@@ -7,9 +7,11 @@ use native.Mathlib.Omega.{arith}
 use lib.Dec.{eqb, ltb, leb}
 use borrow.Author.Tests.{ltb-true, ltb-false, leb-false, eqb-true, eqb-false, eq-eqb, ne-eqb, lt-leb, le-leb, not-false}
 use Rattle.model.specs.declared.Plan.{Plan}
+use Rattle.model.specs.declared.Role.{Role}
 use Rattle.model.specs.Plans.{PageSize, one, four, eight, sixteen}
 use Rattle.model.specs.Layout.{width}
 use Rattle.model.specs.Marker.{OK}
+use Rattle.model.specs.Rights.{maySee, mayWrite}
 use Rattle.model.specs.Refusals.{Job, cold, ready, writing, recovering, isCold, isReady, writeTotal, cleanupTotal, View, badCount, badWidths, badPage, badJob, Refusal, _when_, first, planRow, deviceRow, anyForeign, startNumber, formatNumber, wakeNumber, stepNumber, cutNumber, inspectNumber, readNumber, beginNumber, totalNumber, grouping, badWrite}
 use Rattle.model.proofs.Compare.{below, above, order, equal, differ, same}
 use Rattle.model.specs.Groups.{isRecord, writeAt}
@@ -253,19 +255,29 @@ pub record Began (v : View) (u n : ℕ) : Type 0 where
   pub other : isRecord (v .plan) u ≡ false
   pub size : n ≡ width (v .plan) u
 
-pub begin-says : (v : View) (u n : ℕ) → beginNumber v u n ≡ 0 → Began v u n
+pub begin-says : (v : View) (role : Role) (u n : ℕ) → beginNumber v role u n ≡ 0 → Began v u n
 unfolding beginNumber
-begin-says v u n e =
+begin-says v role u n e =
     let h₅ = first-past 4 (not (isReady (v .job))) _ (past v _ e .more) in
     let h₆ = first-past 5 (leb (v .plan .count) u) _ (h₅ .1) in
     let h₂₀ = first-past 19 (isRecord (v .plan) u) _ (h₆ .1) in
-    let h₇ = first-past 6 (not (eqb n (width (v .plan) u))) _ (h₂₀ .1) in
+    let h₂₂ = first-past 21 (not (mayWrite (v .plan .rights) role u)) _ (h₂₀ .1) in
+    let h₇ = first-past 6 (not (eqb n (width (v .plan) u))) _ (h₂₂ .1) in
     record {
       job = ready-only (v .job) (h₅ .0);
       unit = leb-false (v .plan .count) u (h₆ .0);
       other = h₂₀ .0;
       size = eqb-true n (width (v .plan) u) (not-false _ (h₇ .0));
     }
+
+-- and that the role may write the unit
+pub begin-right : (v : View) (role : Role) (u n : ℕ) → beginNumber v role u n ≡ 0 → mayWrite (v .plan .rights) role u ≡ true
+unfolding beginNumber
+begin-right v role u n e =
+    let h₅ = first-past 4 (not (isReady (v .job))) _ (past v _ e .more) in
+    let h₆ = first-past 5 (leb (v .plan .count) u) _ (h₅ .1) in
+    let h₂₀ = first-past 19 (isRecord (v .plan) u) _ (h₆ .1) in
+    not-false _ (first-past 21 (not (mayWrite (v .plan .rights) role u)) _ (h₂₀ .1) .0)
 
 -- ---- when it is 0
 pub job-writing : (p : Plan) (payload : List ℕ) (u n : ℕ) → u < p .count → n < writeTotal (width p u)
@@ -317,12 +329,14 @@ module _ (v : View) (ok : PlanOk (v .plan)) (long : v .short ≡ false) where
   unfolding stepNumber badJob
   step-ready e = device-past _ (rw e) ∙ first-stop 5 _ [] (rw e)
 
-  pub total-ready : v .job ≡ ready → (u : ℕ) → u < v .plan .count → v .marker u ≡ OK → width (v .plan) u ≡ 8 → totalNumber v u ≡ 0
+  pub total-ready : v .job ≡ ready → (role : Role) (u : ℕ) → u < v .plan .count → maySee (v .plan .rights) role u ≡ true → v .marker u ≡ OK
+      → width (v .plan) u ≡ 8 → totalNumber v role u ≡ 0
   unfolding totalNumber badJob
-  total-ready e u h m w =
+  total-ready e role u h r m w =
       device-past _ (rw e)
       ∙ first-skip 5 _ _ (rw e)
       ∙ first-skip 6 _ _ (lt-leb (v .plan .count) u h)
+      ∙ first-skip 22 _ _ (ap not r)
       ∙ first-skip 8 _ _ (ap not (eq-eqb (v .marker u) OK m))
       ∙ first-skip 16 _ [] (ap not (eq-eqb (width (v .plan) u) 8 w))
       ∙ first-none
@@ -399,14 +413,17 @@ module _ {v v′ : View} (a : Alike v v′) where
             (first-stop 6 _ _ six ∙ sym (first-stop 6 _ _ six)))
       ]
 
-  pub begin-alike : (u n : ℕ) → beginNumber v u n ≡ beginNumber v′ u n
+  pub begin-alike : (role : Role) (u n : ℕ) → beginNumber v role u n ≡ beginNumber v′ role u n
   unfolding beginNumber
-  begin-alike u n = marker-alike u (λ p m. 20 when isRecord p u ∷ 7 when not (eqb n (width p u)) ∷ 8 when not (eqb m OK) ∷ [])
+  begin-alike role u n =
+      marker-alike u
+      (λ p m. 20 when isRecord p u ∷ 22 when not (mayWrite (p .rights) role u) ∷ 7 when not (eqb n (width p u)) ∷ 8 when not (eqb m OK) ∷ [])
 
-  pub read-alike : (u : ℕ) → readNumber v u ≡ readNumber v′ u
+  pub read-alike : (role : Role) (u : ℕ) → readNumber v role u ≡ readNumber v′ role u
   unfolding readNumber
-  read-alike u = marker-alike u (λ p m. 8 when not (eqb m OK) ∷ [])
+  read-alike role u = marker-alike u (λ p m. 22 when not (maySee (p .rights) role u) ∷ 8 when not (eqb m OK) ∷ [])
 
-  pub total-alike : (u : ℕ) → totalNumber v u ≡ totalNumber v′ u
+  pub total-alike : (role : Role) (u : ℕ) → totalNumber v role u ≡ totalNumber v′ role u
   unfolding totalNumber
-  total-alike u = marker-alike u (λ p m. 8 when not (eqb m OK) ∷ 16 when not (eqb (width p u) 8) ∷ [])
+  total-alike role u =
+      marker-alike u (λ p m. 22 when not (maySee (p .rights) role u) ∷ 8 when not (eqb m OK) ∷ 16 when not (eqb (width p u) 8) ∷ [])

@@ -8,6 +8,9 @@ use lib.Dec.{eqb, ltb, leb}
 use lib.ListN.{length}
 use borrow.Author.Tests.{ltb-true, leb-true, eqb-true, eqb-false, not-true, lt-ltb, le-leb, eq-eqb, ne-eqb}
 use Rattle.model.specs.declared.Plan.{Plan}
+use Rattle.model.specs.declared.Role.{Role}
+use Rattle.model.specs.declared.Rights.{Rights}
+use Rattle.model.specs.declared.Role.the-variants.{Rider, Gym, Service}
 use Rattle.model.specs.declared.Phase.{Phase}
 use Rattle.model.specs.declared.Phase.the-variants.{Cold, Ready, Writing, Recovering, Grouping}
 use Rattle.model.specs.Marker.{OK, FOREIGN, isForeign}
@@ -15,17 +18,25 @@ use Rattle.model.specs.Layout.{marker, width, total, get}
 use Rattle.model.specs.Groups.{Write, last, isRecord, split, memberCount, members, unsplit, among, twice, overlaps, narrow, given, writes, writeAt}
 use Rattle.model.specs.Records.{Has, Overlaps}
 use Rattle.model.specs.Records as records
+use Rattle.model.specs.Rights.{SEE, SEE-AND-WRITE, right, maySee, mayWrite}
 use Rattle.model.specs.Refusals.{badWrite, dirty, groupNumber, isCold, isReady, writeTotal, cleanupTotal, badCount, badWidths, badPage, badJob, Refusal, _when_, first, planRow, deviceRow, anyForeign, startNumber, formatNumber, beginNumber, stepNumber, wakeNumber, cutNumber, readNumber, inspectNumber, rideNumber, totalNumber}
 use Rattle.model.specs.Turns.{amount}
 use Rattle.model.specs.Calls.{Device, Outcome, view, heldIn, jobOf, unlessRefused, startAnswer}
 use Rattle.model.specs.Calls as calls
-use Rattle.model.specs.Refuses.{First, refusalOrder, Lowest, BadPlan, noUnit, manyUnits, noWidth, wide, otherPage, BadDevice, plan, short, writingNoUnit, writingMade, cleaningNoUnit, cleaningMade, GoodPlan, groupingAlone, groupingNone, groupingPast, groupingMade, BadGroup, BadCut, otherSize, BadFormat, BadWake, foreign, BadStep, BadRead, BadBegin, size, BadRide, rideOrder, BadTotal, RefusedExactly}
+use Rattle.model.specs.Refuses.{First, refusalOrder, Lowest, BadPlan, noUnit, manyUnits, noWidth, wide, otherPage, BadDevice, plan, short, writingNoUnit, writingMade, cleaningNoUnit, cleaningMade, GoodPlan, groupingAlone, groupingNone, groupingPast, groupingMade, BadGroup, BadCut, otherSize, BadFormat, BadWake, foreign, BadStep, BadRead, BadBegin, size, BadRide, rideOrder, BadTotal, granted, RefusedExactly}
 use Rattle.model.specs.Refuses as bad
 use Rattle.model.proofs.Compare.{below, above, order, equal, differ, same}
 use Rattle.model.proofs.MarkerLaws.{not-foreign}
 use Rattle.model.proofs.RefusalLaws.{PlanOk, and-true, false-or, start-says}
 use Rattle.model.proofs.Records.{group-told, told-group, overlaps-told, told-overlaps, narrow-told, told-narrow, given-told, told-given, write-told, told-write, writes-count}
 use Rattle.model.proofs.TurnLaws.{held-amount}
+
+-- ---- What the table says of a role and a unit.
+right-is : (rights : Rights) (role : Role) (u : ℕ) → right rights role u ≡ granted rights role u
+unfolding right
+right-is rights Rider u = refl
+right-is rights Gym u = refl
+right-is rights Service u = refl
 
 -- ---- A refusal of the row has the number k and holds: it is the first, or one of the rest.
 data Held (k : ℕ) (r : Refusal) (Rest : Type 0) : Type 0 where
@@ -494,75 +505,117 @@ module _ (d : Device) (image : List ℕ) where
     mark-from : ¬ (mark u ≡ 1) → badMark ≡ true
     mark-from h = rw (ne-eqb (mark u) OK h)
 
-    read-lowest : Lowest (BadRead d image u) (readNumber (view d image) u)
+  module _ (role : Role) (u : ℕ) where
+    abbrev unseen : Bool
+    unseen = not (maySee (p .rights) role u)
+
+    abbrev unwritable : Bool
+    unwritable = not (mayWrite (p .rights) role u)
+
+    see-to : unseen ≡ true → ¬ (granted (p .rights) role u ≡ 1) × ¬ (granted (p .rights) role u ≡ 2)
+    unfolding maySee mayWrite
+    see-to h =
+        let t = false-or _ _ (not-true _ h) in
+        (λ e. eqb-false _ SEE (t .0) (right-is (p .rights) role u ∙ e), λ e. eqb-false _ SEE-AND-WRITE (t .1) (right-is (p .rights) role u ∙ e))
+
+    see-from : ¬ (granted (p .rights) role u ≡ 1) → ¬ (granted (p .rights) role u ≡ 2) → unseen ≡ true
+    unfolding maySee mayWrite
+    see-from h h′ = rw (right-is (p .rights) role u, ne-eqb (granted (p .rights) role u) 1 h, ne-eqb (granted (p .rights) role u) 2 h′)
+
+    write-to : unwritable ≡ true → ¬ (granted (p .rights) role u ≡ 2)
+    unfolding mayWrite
+    write-to h e = eqb-false _ SEE-AND-WRITE (not-true _ h) (right-is (p .rights) role u ∙ e)
+
+    write-from : ¬ (granted (p .rights) role u ≡ 2) → unwritable ≡ true
+    unfolding mayWrite
+    write-from h = rw (right-is (p .rights) role u, ne-eqb (granted (p .rights) role u) 2 h)
+
+    abbrev Read : ℕ → Type 0
+    Read = BadRead d image role u
+
+    read-lowest : Lowest Read (readNumber (view d image) role u)
     unfolding readNumber get
-    read-lowest = behind (BadRead d image u) row (omega arith, (omega arith, (omega arith, tt))) (λ k b. bad.BadRead.device b) to from
+    read-lowest = behind Read row (omega arith, (omega arith, (omega arith, (omega arith, tt)))) (λ k b. bad.BadRead.device b) to from
       where
         row : List Refusal
-        row = 5 when off ∷ 6 when leb (p .count) u ∷ 8 when badMark ∷ []
+        row = 5 when off u ∷ 6 when leb (p .count) u ∷ 22 when unseen ∷ 8 when badMark u ∷ []
 
-        to : (k : ℕ) → Says k row → BadRead d image u k
-        to k (here e h) = number-is (BadRead d image u) 5 k e (bad.BadRead.phase (not-ready-to (d .phase) h))
-        to k (there (here e h)) = number-is (BadRead d image u) 6 k e (bad.BadRead.unit (leb-true (p .count) u h))
-        to k (there (there (here e h))) = number-is (BadRead d image u) 8 k e (bad.BadRead.mark (mark-to h))
-        to k (there (there (there q))) = absurd q
+        to : (k : ℕ) → Says k row → Read k
+        to k (here e h) = number-is Read 5 k e (bad.BadRead.phase (not-ready-to (d .phase) h))
+        to k (there (here e h)) = number-is Read 6 k e (bad.BadRead.unit (leb-true (p .count) u h))
+        to k (there (there (here e h))) = number-is Read 22 k e (let t = see-to h in bad.BadRead.hidden (t .0) (t .1))
+        to k (there (there (there (here e h)))) = number-is Read 8 k e (bad.BadRead.mark (mark-to u h))
+        to k (there (there (there (there q)))) = absurd q
 
-        from : (k : ℕ) → BadRead d image u k → Says k (deviceRow (view d image) ++ row)
+        from : (k : ℕ) → Read k → Says k (deviceRow (view d image) ++ row)
         from k (bad.BadRead.device b) = front k row b
         from k (bad.BadRead.phase h) = back 5 row (here refl (not-ready-from (d .phase) h))
         from k (bad.BadRead.unit h) = back 6 row (there (here refl (le-leb (p .count) u h)))
-        from k (bad.BadRead.mark h) = back 8 row (there (there (here refl (mark-from h))))
+        from k (bad.BadRead.hidden h h′) = back 22 row (there (there (here refl (see-from h h′))))
+        from k (bad.BadRead.mark h) = back 8 row (there (there (there (here refl (mark-from u h)))))
 
     module _ (payload : List ℕ) where
       abbrev Bad : ℕ → Type 0
-      Bad = BadBegin d image u payload
+      Bad = BadBegin d image role u payload
 
-      begin-lowest : Lowest Bad (beginNumber (view d image) u (length payload))
+      begin-lowest : Lowest Bad (beginNumber (view d image) role u (length payload))
       unfolding beginNumber get
-      begin-lowest = behind Bad row (omega arith, (omega arith, (omega arith, (omega arith, (omega arith, tt))))) (λ k b. bad.BadBegin.asRead (bad.BadRead.device b)) to from
+      begin-lowest =
+          behind Bad row (omega arith, (omega arith, (omega arith, (omega arith, (omega arith, (omega arith, tt))))))
+          (λ k b. bad.BadBegin.asRead (bad.BadRead.device b)) to from
         where
           row : List Refusal
-          row = 5 when off ∷ 6 when leb (p .count) u ∷ 20 when isRecord p u ∷ 7 when not (eqb (length payload) (width p u)) ∷ 8 when badMark ∷ []
+          row =
+              5 when off u ∷ 6 when leb (p .count) u ∷ 20 when isRecord p u ∷ 22 when unwritable
+              ∷ 7 when not (eqb (length payload) (width p u)) ∷ 8 when badMark u ∷ []
 
           to : (k : ℕ) → Says k row → Bad k
           to k (here e h) = number-is Bad 5 k e (bad.BadBegin.asRead (bad.BadRead.phase (not-ready-to (d .phase) h)))
           to k (there (here e h)) = number-is Bad 6 k e (bad.BadBegin.asRead (bad.BadRead.unit (leb-true (p .count) u h)))
           to k (there (there (here e h))) = number-is Bad 20 k e (let t = record-to u h in bad.BadBegin.theRecord (t .0) (t .1))
-          to k (there (there (there (here e h)))) = number-is Bad 7 k e (size (eqb-false (length payload) (width p u) (not-true _ h)))
-          to k (there (there (there (there (here e h))))) = number-is Bad 8 k e (bad.BadBegin.asRead (bad.BadRead.mark (mark-to h)))
-          to k (there (there (there (there (there q))))) = absurd q
+          to k (there (there (there (here e h)))) = number-is Bad 22 k e (bad.BadBegin.unwritable (write-to h))
+          to k (there (there (there (there (here e h))))) = number-is Bad 7 k e (size (eqb-false (length payload) (width p u) (not-true _ h)))
+          to k (there (there (there (there (there (here e h)))))) = number-is Bad 8 k e (bad.BadBegin.asRead (bad.BadRead.mark (mark-to u h)))
+          to k (there (there (there (there (there (there q)))))) = absurd q
 
           from : (k : ℕ) → Bad k → Says k (deviceRow (view d image) ++ row)
           from k (bad.BadBegin.asRead (bad.BadRead.device b)) = front k row b
           from k (bad.BadBegin.asRead (bad.BadRead.phase h)) = back 5 row (here refl (not-ready-from (d .phase) h))
           from k (bad.BadBegin.asRead (bad.BadRead.unit h)) = back 6 row (there (here refl (le-leb (p .count) u h)))
-          from k (bad.BadBegin.asRead (bad.BadRead.mark h)) = back 8 row (there (there (there (there (here refl (mark-from h))))))
-          from k (size h) = back 7 row (there (there (there (here refl (rw (ne-eqb (length payload) (width p u) h))))))
+          from k (bad.BadBegin.asRead (bad.BadRead.hidden h h′)) = back 22 row (there (there (there (here refl (write-from h′)))))
+          from k (bad.BadBegin.asRead (bad.BadRead.mark h)) = back 8 row (there (there (there (there (there (here refl (mark-from u h)))))))
+          from k (size h) = back 7 row (there (there (there (there (here refl (rw (ne-eqb (length payload) (width p u) h)))))))
           from k (bad.BadBegin.theRecord e h) = back 20 row (there (there (here refl (record-from u e h))))
+          from k (bad.BadBegin.unwritable h) = back 22 row (there (there (there (here refl (write-from h)))))
 
-    total-lowest : Lowest (BadTotal d image u) (totalNumber (view d image) u)
+    abbrev Total : ℕ → Type 0
+    Total = BadTotal d image role u
+
+    total-lowest : Lowest Total (totalNumber (view d image) role u)
     unfolding totalNumber get
     total-lowest =
-        behind (BadTotal d image u) row (omega arith, (omega arith, (omega arith, (omega arith, tt))))
+        behind Total row (omega arith, (omega arith, (omega arith, (omega arith, (omega arith, tt)))))
         (λ k b. bad.BadTotal.asRead (bad.BadRead.device b)) to from
       where
         row : List Refusal
-        row = 5 when off ∷ 6 when leb (p .count) u ∷ 8 when badMark ∷ 16 when not (eqb (width p u) 8) ∷ []
+        row = 5 when off u ∷ 6 when leb (p .count) u ∷ 22 when unseen ∷ 8 when badMark u ∷ 16 when not (eqb (width p u) 8) ∷ []
 
-        to : (k : ℕ) → Says k row → BadTotal d image u k
-        to k (here e h) = number-is (BadTotal d image u) 5 k e (bad.BadTotal.asRead (bad.BadRead.phase (not-ready-to (d .phase) h)))
-        to k (there (here e h)) = number-is (BadTotal d image u) 6 k e (bad.BadTotal.asRead (bad.BadRead.unit (leb-true (p .count) u h)))
-        to k (there (there (here e h))) = number-is (BadTotal d image u) 8 k e (bad.BadTotal.asRead (bad.BadRead.mark (mark-to h)))
-        to k (there (there (there (here e h)))) =
-            number-is (BadTotal d image u) 16 k e (bad.BadTotal.otherWidth (eqb-false (width p u) 8 (not-true _ h)))
-        to k (there (there (there (there q)))) = absurd q
+        to : (k : ℕ) → Says k row → Total k
+        to k (here e h) = number-is Total 5 k e (bad.BadTotal.asRead (bad.BadRead.phase (not-ready-to (d .phase) h)))
+        to k (there (here e h)) = number-is Total 6 k e (bad.BadTotal.asRead (bad.BadRead.unit (leb-true (p .count) u h)))
+        to k (there (there (here e h))) = number-is Total 22 k e (let t = see-to h in bad.BadTotal.asRead (bad.BadRead.hidden (t .0) (t .1)))
+        to k (there (there (there (here e h)))) = number-is Total 8 k e (bad.BadTotal.asRead (bad.BadRead.mark (mark-to u h)))
+        to k (there (there (there (there (here e h))))) =
+            number-is Total 16 k e (bad.BadTotal.otherWidth (eqb-false (width p u) 8 (not-true _ h)))
+        to k (there (there (there (there (there q))))) = absurd q
 
-        from : (k : ℕ) → BadTotal d image u k → Says k (deviceRow (view d image) ++ row)
+        from : (k : ℕ) → Total k → Says k (deviceRow (view d image) ++ row)
         from k (bad.BadTotal.asRead (bad.BadRead.device b)) = front k row b
         from k (bad.BadTotal.asRead (bad.BadRead.phase h)) = back 5 row (here refl (not-ready-from (d .phase) h))
         from k (bad.BadTotal.asRead (bad.BadRead.unit h)) = back 6 row (there (here refl (le-leb (p .count) u h)))
-        from k (bad.BadTotal.asRead (bad.BadRead.mark h)) = back 8 row (there (there (here refl (mark-from h))))
-        from k (bad.BadTotal.otherWidth h) = back 16 row (there (there (there (here refl (rw (ne-eqb (width p u) 8 h))))))
+        from k (bad.BadTotal.asRead (bad.BadRead.hidden h h′)) = back 22 row (there (there (here refl (see-from h h′))))
+        from k (bad.BadTotal.asRead (bad.BadRead.mark h)) = back 8 row (there (there (there (here refl (mark-from u h)))))
+        from k (bad.BadTotal.otherWidth h) = back 16 row (there (there (there (there (here refl (rw (ne-eqb (width p u) 8 h)))))))
 
   -- ---- ride
   module _ (turns : ℕ) where
@@ -704,7 +757,7 @@ refused-exactly d image =
       start = subst (Lowest (BadPlan (d .plan))) (started _ _)
           (lowest (BadPlan (d .plan)) (planRow (d .plan)) (omega arith, (omega arith, (omega arith, tt))) (plan-to (d .plan)) (plan-from (d .plan)));
       format = subst (Lowest (BadFormat d image)) (told _ d image _ refl) (format-lowest d image);
-      begin = λ u payload. subst (Lowest (BadBegin d image u payload)) (told _ d image _ refl) (begin-lowest d image u payload);
+      begin = λ role u payload. subst (Lowest (BadBegin d image role u payload)) (told _ d image _ refl) (begin-lowest d image role u payload);
       ride = λ turns. subst (First rideOrder (BadRide d image turns)) (told _ d image _ refl) (ride-first d image turns);
       group = λ g. subst (Lowest (BadGroup d image g)) (told _ d image _ refl) (group-lowest d image g);
       step = subst (Lowest (BadStep d image)) (told _ d image _ refl) (step-lowest d image);

@@ -29,8 +29,8 @@ settle (suc n) o f e = refl
 
 count-alone : (c : Call) (o : Outcome) → uncounted (call c (uncounted o)) ≡ uncounted (call c o)
 unfolding call calls.begin calls.ride calls.group calls.step calls.cut calls.wake imageAfter
-count-alone (begin u payload) o =
-    settle (beginNumber (view (o .device) (o .image)) u (length payload)) o (λ d. outcome 0 (asBegun u (padded payload) d) (o .image)) refl
+count-alone (begin role u payload) o =
+    settle (beginNumber (view (o .device) (o .image)) role u (length payload)) o (λ d. outcome 0 (asBegun u (padded payload) d) (o .image)) refl
 count-alone (ride turns) o =
     settle (rideNumber (view (o .device) (o .image)) (heldIn (o .device) (o .image) 0) turns) o
     (λ d. outcome 0 (asBegun 0 (padded (plus (heldIn d (o .image) 0) turns)) d) (o .image)) refl

@@ -94,7 +94,7 @@ module _ (p : Plan) where
 
   call-saves : (x : Ledger) (c : Call) → accepted p x c .saved ≡ savingAll (passedBy p x c) (x .saved)
   unfolding accepted savingAll
-  call-saves x (begin u payload) = refl
+  call-saves x (begin role u payload) = refl
   call-saves x (ride turns) = refl
   call-saves x (group g) = refl
   call-saves x step = step-saves x (x .job)
@@ -330,7 +330,7 @@ module _ (p : Plan) (g : List ℕ) (l : Ledger) (pr : Promised p l) (gd : Groupe
   ended : (cs : List Call) (x : Ledger) → On x → Ended x cs
   unfolding after
   ended [] x on = record { kept = x .saved; which = either-on on; same = λ u r. refl }
-  ended (begin u payload ∷ cs) x on = asked (begin u payload) cs x refl on (ended cs (fed p x (begin u payload)))
+  ended (begin role u payload ∷ cs) x on = asked (begin role u payload) cs x refl on (ended cs (fed p x (begin role u payload)))
   ended (ride turns ∷ cs) x on = asked (ride turns) cs x refl on (ended cs (fed p x (ride turns)))
   ended (group gs ∷ cs) x on = asked (group gs) cs x refl on (ended cs (fed p x (group gs)))
   ended (step ∷ cs) x on = goes-on step cs x refl (ended cs (fed p x step) (on-call x step (λ e. stepping x) on))
@@ -407,7 +407,7 @@ all-or-none d image e cs g a more bytes closes =
 none-later : (p : Plan) (cs : List Call) (x : Ledger) → NoWrite cs → later p x cs ≡ []
 unfolding later
 none-later p [] x h = refl
-none-later p (begin u payload ∷ cs) x h = absurd h
+none-later p (begin role u payload ∷ cs) x h = absurd h
 none-later p (ride turns ∷ cs) x h = absurd h
 none-later p (group g ∷ cs) x h = absurd h
 none-later p (step ∷ cs) x h = none-later p cs (fed p x step) h
@@ -416,7 +416,7 @@ none-later p (wake ∷ cs) x h = none-later p cs (fed p x wake) h
 
 closed-none : (bytes : List ℕ) (cs : List Call) → NoWrite cs → NoWrite (closedBy bytes cs)
 closed-none bytes [] h = tt
-closed-none bytes (begin u payload ∷ cs) h = h
+closed-none bytes (begin role u payload ∷ cs) h = h
 closed-none bytes (ride turns ∷ cs) h = h
 closed-none bytes (group g ∷ cs) h = h
 closed-none bytes (step ∷ cs) h = closed-none bytes cs h

@@ -8,12 +8,14 @@ use lib.Dec.{eqb}
 use lib.ListN.{length}
 use borrow.Author.Tests.{eqb-true, eqb-false, ne-eqb, le-ltb}
 use Rattle.model.specs.declared.Plan.{Plan}
+use Rattle.model.specs.declared.Role.{Role}
 use Rattle.model.specs.declared.Phase.{Phase}
 use Rattle.model.specs.declared.Phase.the-variants.{Ready}
 use Rattle.model.specs.Plans.{width}
 use Rattle.model.specs.Marker.{OK, End, completed, tornBy}
 use Rattle.model.specs.Turns.{amount, plus}
 use Rattle.model.specs.Groups.{Write, write, last, among, members, writeAt, isLastWrite}
+use Rattle.model.specs.Rights.{maySee}
 use Rattle.model.specs.Refusals.{Job, cold, ready, writing, recovering, grouping, View, totalNumber}
 use Rattle.model.specs.Layout.{Copy, copyA, total, copyOf}
 use Rattle.model.specs.Calls.{Outcome, viewOf, totalUnlessRefused, AllMarkersOk}
@@ -166,9 +168,9 @@ module _ (p : Plan) where
   abbrev Accepts : Call → Type 0
   Accepts c = (l : Ledger) (due : List ℕ) → Promised p l → told p l c ≡ 0 → State l due → Called l (accepted p l c) c due
 
-  begin-called : (u : ℕ) (payload : List ℕ) → ¬ (u ≡ 0) → Accepts (begin u payload)
+  begin-called : (role : Role) (u : ℕ) (payload : List ℕ) → ¬ (u ≡ 0) → Accepts (begin role u payload)
   unfolding accepted sum
-  begin-called u payload h l due pr e st =
+  begin-called role u payload h l due pr e st =
       record {
         gains = omega arith;
         state = writes u 0 refl (omega arith)
@@ -278,7 +280,7 @@ module _ (p : Plan) where
     adds : (cs : List Call) → OnlyRides p 0 cs → Adds cs
     unfolding after passed sum
     adds [] h = λ l o due inv pr st. omega arith
-    adds (begin u payload ∷ cs) h = adds-call (begin u payload) cs (begin-called u payload (h .0)) (adds cs (h .1))
+    adds (begin role u payload ∷ cs) h = adds-call (begin role u payload) cs (begin-called role u payload (h .0)) (adds cs (h .1))
     adds (ride turns ∷ cs) h = adds-call (ride turns) cs (ride-called turns) (adds cs h)
     adds (group g ∷ cs) h = adds-call (group g) cs (group-called ok g (h .0)) (adds cs (h .1))
     adds (step ∷ cs) h = adds-call step cs step-called (adds cs h)
@@ -293,7 +295,7 @@ module _ (p : Plan) where
 
   closed : (u : ℕ) (bytes : List ℕ) (cs : List Call) → OnlyRides p u cs → OnlyRides p u (closedBy bytes cs)
   closed u bytes [] h = tt
-  closed u bytes (begin v payload ∷ cs) h = (h .0, closed u bytes cs (h .1))
+  closed u bytes (begin role v payload ∷ cs) h = (h .0, closed u bytes cs (h .1))
   closed u bytes (ride turns ∷ cs) h = closed u bytes cs h
   closed u bytes (group g ∷ cs) h = (h .0, closed u bytes cs (h .1))
   closed u bytes (step ∷ cs) h = closed u bytes cs h
@@ -302,14 +304,14 @@ module _ (p : Plan) where
 
 -- what the console shows of a Ready device whose markers are OK
 shown : (p : Plan) → PlanOk p → (o : Outcome) → o .device .plan ≡ p → o .device .phase ≡ Ready → total p ≤ length (o .image)
-    → AllMarkersOk p (o .image) → width p 0 ≡ 8 → (turns : ℕ) → amount (copyOf p (o .image) 0 copyA) ≡ turns
-    → calls.totalOf (o .device) (o .image) 0 ≡ record { number = 0; amount = turns }
+    → AllMarkersOk p (o .image) → width p 0 ≡ 8 → (role : Role) → maySee (p .rights) role 0 ≡ true → (turns : ℕ) → amount (copyOf p (o .image) 0 copyA) ≡ turns
+    → calls.totalOf (o .device) (o .image) role 0 ≡ record { number = 0; amount = turns }
 unfolding calls.totalOf
-shown p ok o plan phase long markers w turns holds =
+shown p ok o plan phase long markers w role right turns holds =
     let first : 0 < p .count = count-bounds p ok .0 in
     let v : View = viewOf p (o .device .payload) Ready (o .image) in
-    let n : totalNumber v 0 ≡ 0 = total-ready v ok (le-ltb (length (o .image)) (total p) long) refl 0 first (markers 0 first) w in
-    ap₂ (λ (q : Plan) (x : Phase). totalUnlessRefused (totalNumber (viewOf q (o .device .payload) x (o .image)) 0) (amount (copyOf q (o .image) 0 copyA))) plan phase
+    let n : totalNumber v role 0 ≡ 0 = total-ready v ok (le-ltb (length (o .image)) (total p) long) refl role 0 first right (markers 0 first) w in
+    ap₂ (λ (q : Plan) (x : Phase). totalUnlessRefused (totalNumber (viewOf q (o .device .payload) x (o .image)) role 0) (amount (copyOf q (o .image) 0 copyA))) plan phase
     ∙ ap₂ totalUnlessRefused n holds
 
 pub turns-add-up : TurnsAddUp
@@ -327,5 +329,5 @@ turns-add-up d image e cs bytes closes h =
       needed = s .needed;
       accepted = s .accepted;
       holds = holds;
-      shows = λ w. shown p (opens .0) (run (repair (s .steps)) (run (closedBy bytes cs) f)) (i .plan) (s .ready) (i .frame .long) (s .markers) w _ (holds copyA);
+      shows = λ w role right. shown p (opens .0) (run (repair (s .steps)) (run (closedBy bytes cs) f)) (i .plan) (s .ready) (i .frame .long) (s .markers) w role right _ (holds copyA);
     }

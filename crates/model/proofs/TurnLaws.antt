@@ -17,7 +17,7 @@ use Rattle.model.specs.Plans.{width}
 use Rattle.model.specs.Turns.{amount, inBytes, plus}
 use Rattle.model.specs.Groups.{isRecord}
 use Rattle.model.specs.Refusals.{ready, isReady, View, deviceRow, beginNumber, rideNumber, _when_}
-use Rattle.model.proofs.RefusalLaws.{PlanOk, count-bounds, ready-only, past, first-past, first-skip, first-none, first-from, device-passed, Alike}
+use Rattle.model.proofs.RefusalLaws.{PlanOk, count-bounds, ready-only, past, first-past, first-from, Alike, Began}
 
 pub bytes-size : (n v : ℕ) → length (inBytes n v) ≡ n
 unfolding inBytes
@@ -117,18 +117,16 @@ ride-says v bytes turns e =
       room = h₁₅ .0;
     }
 
-pub ride-begins : (v : View) (bytes : List ℕ) (turns : ℕ) → rideNumber v bytes turns ≡ 0
-    → beginNumber v 0 (length (plus bytes turns)) ≡ 0
-unfolding rideNumber beginNumber
-ride-begins v bytes turns e =
+-- a ride is a begin of unit 0, for which no right is asked
+pub ride-began : (v : View) (bytes : List ℕ) (turns : ℕ) → rideNumber v bytes turns ≡ 0 → Began v 0 (length (plus bytes turns))
+ride-began v bytes turns e =
     let r = ride-says v bytes turns e in
-    device-passed v _ _ e
-    ∙ first-skip 5 _ _ (rw (r .job))
-    ∙ first-skip 6 _ _ (lt-leb (v .plan .count) 0 (count-bounds (v .plan) (r .plan) .0))
-    ∙ first-skip 20 _ _ (r .other)
-    ∙ first-skip 7 _ _ (ap not (eq-eqb _ _ (plus-size bytes turns ∙ sym (r .wide))))
-    ∙ first-skip 8 _ [] (r .mark)
-    ∙ first-none
+    record {
+      job = r .job;
+      unit = count-bounds (v .plan) (r .plan) .0;
+      other = r .other;
+      size = plus-size bytes turns ∙ sym (r .wide);
+    }
 
 -- two views judge alike: unit 0's marker and bytes are looked at after 5 only
 pub ride-alike : {v v′ : View} → Alike v v′ → {bytes bytes′ : List ℕ} (turns : ℕ)

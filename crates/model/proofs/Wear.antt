@@ -11,6 +11,7 @@ use Rattle.model.specs.declared.Plan.{Plan}
 use Rattle.model.specs.Plans.{width}
 use Rattle.model.specs.Marker.{OK, direction, completed, tornBy, tornBits, torn}
 use Rattle.model.specs.Groups.{Write, write, last, members, unsplit, payloadOf, stands, remaining, writes, writeAt, isLastWrite}
+use Rattle.model.specs.Rights.{right, mayWrite}
 use Rattle.model.specs.Refusals.{Job, cold, ready, writing, recovering, grouping, badWrite, badCount, badWidths, badPage, badJob, first, anyForeign, startNumber, formatNumber, beginNumber, rideNumber, groupNumber, stepNumber, wakeNumber, cutNumber}
 use Rattle.model.specs.Turns.{plus}
 use Rattle.model.specs.Layout.{wholePages, base, get, put, putPage, fresh, formatted}
@@ -155,7 +156,7 @@ module _ (p : Plan) (ok : PlanOk p) where
 
     fair : l .unit < p .count → (c : Call) → told p l c ≡ 0 → Fair c
     unfolding told accepted
-    fair hu (begin u payload) e = omega arith
+    fair hu (begin role u payload) e = omega arith
     fair hu (ride turns) e = omega arith
     fair hu (group g) e = omega (arith, group-stores p g (group-says (judged p l) g e .parts))
     fair hu step e = step-fair e
@@ -198,8 +199,8 @@ adds (suc n) d image next k more e z h = omega (arith, e)
 call-adds : (c : Call) (l : Ledger) (o : Outcome) (k : ℕ) → o .device .stores ≡ min k mostStores
     → call c o .device .stores ≡ min (k + ifAccepted (call c o .number) (completes l c)) mostStores
 unfolding call calls.begin calls.ride calls.group calls.step calls.cut calls.wake
-call-adds (begin u payload) l o k e =
-    adds (beginNumber (view (o .device) (o .image)) u (length payload)) (o .device) (o .image)
+call-adds (begin role u payload) l o k e =
+    adds (beginNumber (view (o .device) (o .image)) role u (length payload)) (o .device) (o .image)
     (outcome 0 (asBegun u (padded payload) (o .device)) (o .image)) k 0 e refl (omega (arith, e))
 call-adds (ride turns) l o k e =
     let held = heldIn (o .device) (o .image) 0 in
@@ -247,5 +248,5 @@ wear-ceiling d image e cs =
 
 -- ---- the rows of specs/Edges.antt, computed
 pub every-wear : EveryWear
-unfolding direction tornBits torn wholePages base get put putPage fresh formatted badCount badWidths badPage badJob first startNumber formatNumber wakeNumber stepNumber cutNumber anyForeign beginNumber copying writeStores cleanupStores stored calls.next calls.imageAfter calls.lowestBad calls.phaseAfter calls.payloadAfter calls.resumes stands calls.counted calls.start calls.format calls.begin calls.step calls.wake calls.cut opening markerOf told writeMarker cleanupMarker saving savingAll accepted fed call run overAccepted widest added
+unfolding direction tornBits torn wholePages base get put putPage fresh formatted badCount badWidths badPage badJob first startNumber formatNumber wakeNumber stepNumber cutNumber anyForeign beginNumber copying writeStores cleanupStores stored calls.next calls.imageAfter calls.lowestBad calls.phaseAfter calls.payloadAfter calls.resumes stands calls.counted calls.start calls.format calls.begin calls.step calls.wake calls.cut opening markerOf told writeMarker cleanupMarker saving savingAll accepted fed call run overAccepted widest added right mayWrite
 every-wear = refl

@@ -7,10 +7,12 @@ use mathlib.Core.Bool.{Bool, false, cond, _&&_}
 use lib.Dec.{eqb, ltb}
 use lib.ListN.{length, getElem?, replicate}
 use Rattle.model.specs.declared.Plan.{Plan}
+use Rattle.model.specs.declared.Role.{Role}
 use Rattle.model.specs.declared.Inspection.{Inspection}
 use Rattle.model.specs.declared.Inspection.the-variants.{Refused, Suspect, AllOk}
 use Rattle.model.specs.declared.Phase.{Phase}
 use Rattle.model.specs.declared.Phase.the-variants.{Cold, Ready, Writing, Recovering, Grouping}
+use Rattle.model.specs.Rights.{noRights}
 use Rattle.model.specs.Marker.{OK, direction, End, completed, tornBy}
 use Rattle.model.specs.Layout.{copyA, marker, width, total, get, copyOf, formatted}
 pub use Rattle.model.specs.Groups.{padded}
@@ -172,9 +174,9 @@ payloadAfter p payload image (Grouping i made) = payload
 
 -- ---- The calls.
 -- "start's refusal returns k = 0, all widths 0, Cold, zero payload"; Ticket 9: "p = 1, as in a refused start"; Ticket 10: "A device may
--- be started as grouped (a refused start isn't)"
+-- be started as grouped (a refused start isn't)"; Ticket 11: "all nothing if refused"
 abbrev pub noPlan : Plan
-noPlan = record { count = 0; widths = replicate 8 0; page = 1; grouped = false }
+noPlan = record { count = 0; widths = replicate 8 0; page = 1; grouped = false; rights = noRights }
 
 abbrev pub startAnswer : ℕ → Plan → Answer
 startAnswer zero p = record { number = 0; device = asStarted p }
@@ -189,9 +191,9 @@ format d image =
     unlessRefused (formatNumber (view d image)) d image (outcome 0 (asFormatted d) (formatted (d .plan) image))
 
 -- "stores nothing; the payload goes into the device"
-unfoldable pub begin : Device → List ℕ → ℕ → List ℕ → Outcome
-begin d image u payload =
-    unlessRefused (beginNumber (view d image) u (length payload)) d image (outcome 0 (asBegun u (padded payload) d) image)
+unfoldable pub begin : Device → List ℕ → Role → ℕ → List ℕ → Outcome
+begin d image role u payload =
+    unlessRefused (beginNumber (view d image) role u (length payload)) d image (outcome 0 (asBegun u (padded payload) d) image)
 
 -- Ticket 7: "a unit's total or record is taken from copy A"
 abbrev pub heldIn : Device → List ℕ → ℕ → List ℕ
@@ -237,10 +239,10 @@ abbrev pub partUnlessRefused : ℕ → List ℕ → List ℕ
 partUnlessRefused zero part = part
 partUnlessRefused (suc n) part = []
 
-unfoldable pub read : Device → List ℕ → ℕ → List ℕ
-read d image u = partUnlessRefused (readNumber (view d image) u) (copyOf (d .plan) image u copyA)
+unfoldable pub read : Device → List ℕ → Role → ℕ → List ℕ
+read d image role u = partUnlessRefused (readNumber (view d image) role u) (copyOf (d .plan) image u copyA)
 
--- "A companion call gives the number, 0 or a refusal": readNumber (view d image) u.
+-- "A companion call gives the number, 0 or a refusal": readNumber (view d image) role u.
 
 -- a unit's total as a number, 0 when refused
 pub record Total : Type 0 where
@@ -251,8 +253,8 @@ abbrev pub totalUnlessRefused : ℕ → ℕ → Total
 totalUnlessRefused zero n = record { number = 0; amount = n }
 totalUnlessRefused (suc refusal) n = record { number = suc refusal; amount = 0 }
 
-unfoldable pub totalOf : Device → List ℕ → ℕ → Total
-totalOf d image u = totalUnlessRefused (totalNumber (view d image) u) (amount (heldIn d image u))
+unfoldable pub totalOf : Device → List ℕ → Role → ℕ → Total
+totalOf d image role u = totalUnlessRefused (totalNumber (view d image) role u) (amount (heldIn d image u))
 
 abbrev pub AllMarkersOk : Plan → List ℕ → Type 0
 AllMarkersOk p image = (u : ℕ) → u < p .count → get p image u marker ≡ OK

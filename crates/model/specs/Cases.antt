@@ -5,6 +5,8 @@ use mathlib.Core.Bool.{false}
 use mathlib.Core.List.{List, [], _∷_, _++_, map}
 use lib.ListN.{length, take, replicate}
 use Rattle.model.specs.declared.Plan.{Plan}
+use Rattle.model.specs.declared.Role.the-variants.{Service}
+use Rattle.model.specs.Rights.{serviceRights}
 use Rattle.model.specs.Layout.{total}
 use Rattle.model.specs.Calls.{Outcome}
 use Rattle.model.specs.Calls as calls
@@ -27,7 +29,7 @@ pub data Result : Type 0 where
   drives : ℕ → ℕ → Result
 
 abbrev pub paged : ℕ → List ℕ → ℕ → Plan
-paged count widths page = record { count = count; widths = widths; page = page; grouped = false }
+paged count widths page = record { count = count; widths = widths; page = page; grouped = false; rights = serviceRights }
 
 abbrev pub planned : ℕ → List ℕ → Plan
 planned count widths = paged count widths 1
@@ -65,7 +67,7 @@ cutOne m = cut (m ∷ [])
 
 -- `(write 0 (0a 0b))`, n steps and a cut, on the plan `(2 1)`; and the same with more calls after it
 abbrev saved : ℕ → ℕ → List Call → Question
-saved n m more = script (2 ∷ 1 ∷ []) (begin 0 (10 ∷ 11 ∷ []) ∷ replicate n step ++ (cutOne m ∷ more))
+saved n m more = script (2 ∷ 1 ∷ []) (begin Service 0 (10 ∷ 11 ∷ []) ∷ replicate n step ++ (cutOne m ∷ more))
 
 -- all of n calls are accepted, and unit 1 is left alone
 abbrev leaves : ℕ → List ℕ → List ℕ → Result
@@ -101,7 +103,7 @@ table =
     ∷ case (driven 1 8) (drives 0 261)
     ∷ case (driven 21 256) (drives 9 0)
     -- C12: write with `()` to width 1 is 7
-    ∷ case (script (1 ∷ []) (begin 0 [] ∷ [])) (ends (7 ∷ []) (7 ∷ []) (1 ∷ 0 ∷ 0 ∷ []) (0 ∷ []))
+    ∷ case (script (1 ∷ []) (begin Service 0 [] ∷ [])) (ends (7 ∷ []) (7 ∷ []) (1 ∷ 0 ∷ 0 ∷ []) (0 ∷ []))
     ∷ []
 
 abbrev pub EveryCase : Type 0

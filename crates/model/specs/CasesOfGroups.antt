@@ -7,9 +7,11 @@ use mathlib.Core.Bool.{Bool, true, false}
 use mathlib.Core.List.{List, [], _∷_, _++_}
 use lib.ListN.{length, take, replicate}
 use Rattle.model.specs.declared.Plan.{Plan}
+use Rattle.model.specs.declared.Role.the-variants.{Service}
 use Rattle.model.specs.declared.Phase.{Phase}
 use Rattle.model.specs.declared.Phase.the-variants.{Cold, Ready, Grouping}
 use Rattle.model.specs.Groups.{Write, write, memberCount, members, payloadOf, writes}
+use Rattle.model.specs.Rights.{serviceRights}
 use Rattle.model.specs.Refusals.{groupNumber, beginNumber, stepNumber}
 use Rattle.model.specs.Calls.{Device, Outcome, view}
 use Rattle.model.specs.Calls as calls
@@ -18,7 +20,7 @@ use Rattle.model.specs.PowerCut.{run, repair}
 
 -- widths 1, 1 and 5: the record holds a group of two members of one byte, and no more
 abbrev plan115 : Bool → Plan
-plan115 grouped = record { count = 3; widths = 1 ∷ 1 ∷ 5 ∷ replicate 5 0; page = 1; grouped = grouped }
+plan115 grouped = record { count = 3; widths = 1 ∷ 1 ∷ 5 ∷ replicate 5 0; page = 1; grouped = grouped; rights = serviceRights }
 
 -- 51 into unit 0 and 68 into unit 1
 abbrev ride : List ℕ
@@ -33,7 +35,7 @@ formattedDevice = calls.format (calls.start (plan115 true) .device) (replicate 1
 -- ---- bytes split into members, and the record that they give
 -- widths 1, 2, 256, 1 and 9
 abbrev wide : Plan
-wide = record { count = 5; widths = 1 ∷ 2 ∷ 256 ∷ 1 ∷ 9 ∷ replicate 3 0; page = 4; grouped = true }
+wide = record { count = 5; widths = 1 ∷ 2 ∷ 256 ∷ 1 ∷ 9 ∷ replicate 3 0; page = 4; grouped = true; rights = serviceRights }
 
 -- how many members the bytes are, which, and the first bytes of the record
 abbrev Parted : List ℕ → ℕ → List Write → List ℕ → Type 0
@@ -123,7 +125,7 @@ pub record EverySaved : Type 0 where
 
 -- ---- four members: the record, each in the order of the group, and the zeros
 abbrev plan11119 : Plan
-plan11119 = record { count = 5; widths = 1 ∷ 1 ∷ 1 ∷ 1 ∷ 9 ∷ replicate 3 0; page = 1; grouped = true }
+plan11119 = record { count = 5; widths = 1 ∷ 1 ∷ 1 ∷ 1 ∷ 9 ∷ replicate 3 0; page = 1; grouped = true; rights = serviceRights }
 
 abbrev opened : Outcome
 opened = calls.format (calls.start plan11119 .device) (replicate 31 7)
@@ -158,7 +160,7 @@ good = marked 1 1 1
 abbrev narrower : Device
 narrower =
     record {
-      plan = record { count = 3; widths = 1 ∷ 1 ∷ 4 ∷ replicate 5 0; page = 1; grouped = true };
+      plan = record { count = 3; widths = 1 ∷ 1 ∷ 4 ∷ replicate 5 0; page = 1; grouped = true; rights = serviceRights };
       payload = replicate 256 0;
       phase = Ready;
       stores = 0;
@@ -172,7 +174,7 @@ abbrev rideOn : Bool → ℕ → ℕ → ℕ
 rideOn grouped w m =
     calls.ride
     (record {
-      plan = record { count = 1; widths = w ∷ replicate 7 0; page = 1; grouped = grouped };
+      plan = record { count = 1; widths = w ∷ replicate 7 0; page = 1; grouped = grouped; rights = serviceRights };
       payload = replicate 256 0;
       phase = Ready;
       stores = 0;
@@ -202,9 +204,9 @@ pub record EveryGroupNumber : Type 0 where
   pub recordMarker : asked true Ready (marked 1 1 2) ride ≡ 8
   pub memberMarker : asked true Ready (marked 1 4 1) ride ≡ 8
   -- begin: 20 after 6 and before 7; the last unit of an ungrouped device is as any other
-  pub beginPast : beginNumber (view (device true Ready []) good) 3 0 ≡ 6
-  pub beginRecord : beginNumber (view (device true Ready []) good) 2 0 ≡ 20
-  pub beginLast : beginNumber (view (device false Ready []) good) 2 0 ≡ 7
+  pub beginPast : beginNumber (view (device true Ready []) good) Service 3 0 ≡ 6
+  pub beginRecord : beginNumber (view (device true Ready []) good) Service 2 0 ≡ 20
+  pub beginLast : beginNumber (view (device false Ready []) good) Service 2 0 ≡ 7
   -- a ride: 20 after 16 and before 8, where the only unit is the record
   pub rideRecord : rideOn true 8 2 ≡ 20
   pub rideNarrow : rideOn true 7 2 ≡ 16
@@ -229,7 +231,7 @@ abbrev roomy : List ℕ → Phase
 roomy a =
     wokenOver
     (record {
-      plan = record { count = 3; widths = 1 ∷ 1 ∷ 7 ∷ replicate 5 0; page = 1; grouped = true };
+      plan = record { count = 3; widths = 1 ∷ 1 ∷ 7 ∷ replicate 5 0; page = 1; grouped = true; rights = serviceRights };
       payload = [];
       phase = Cold;
       stores = 0;

@@ -5,6 +5,7 @@ use mathlib.Core.Path.{_≡_}
 use mathlib.Core.List.{List, [], _∷_, _++_, map}
 use lib.ListN.{replicate}
 use Rattle.model.specs.declared.Plan.{Plan}
+use Rattle.model.specs.declared.Role.the-variants.{Service}
 use Rattle.model.specs.declared.Direction.the-variants.{AToB, BToA}
 use Rattle.model.specs.declared.Inspection.the-variants.{Suspect, AllOk}
 use Rattle.model.specs.declared.Phase.{Phase}
@@ -156,6 +157,6 @@ EveryPaged =
     ≡ (1 ∷ replicate 19 0) ++ (1 ∷ replicate 11 0) ++ (7 ∷ []))
     × (calls.step (on (sixAndOne 4) (Writing 0 13) payload6) (image (markOf 4) one ended one ended) .image
     ≡ image (markOf 4) one ended one (5 ∷ 36 ∷ 53 ∷ 54 ∷ []))
-    × (calls.read (on (sixAndOne 4) Ready payload6) (image (markOf 1) one ended given ended) 0 ≡ 1 ∷ 2 ∷ 3 ∷ 4 ∷ 5 ∷ 6 ∷ [])
+    × (calls.read (on (sixAndOne 4) Ready payload6) (image (markOf 1) one ended given ended) Service 0 ≡ 1 ∷ 2 ∷ 3 ∷ 4 ∷ 5 ∷ 6 ∷ [])
     × (calls.inspect (on (sixAndOne 4) Cold payload6) (image (markOf 1) one ended one ended) ≡ AllOk)
     × (calls.inspect (on (sixAndOne 4) Cold payload6) (image (markOf 3) one ended one ended) ≡ Suspect 0)

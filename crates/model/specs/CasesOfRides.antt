@@ -5,6 +5,7 @@ use mathlib.Core.Path.{_≡_}
 use mathlib.Core.List.{List, [], _∷_, _++_, map}
 use lib.ListN.{take, replicate}
 use Rattle.model.specs.declared.Plan.{Plan}
+use Rattle.model.specs.declared.Role.the-variants.{Service}
 use Rattle.model.specs.declared.Phase.{Phase}
 use Rattle.model.specs.declared.Phase.the-variants.{Cold, Ready, Writing}
 use Rattle.model.specs.Layout.{copyA, copyOf}
@@ -97,12 +98,12 @@ told n a = record { number = n; amount = a }
 
 abbrev pub EveryTotal : Type 0
 EveryTotal =
-    calls.totalOf (wide 8 Ready) (over 1 (44 ∷ 1 ∷ replicate 6 0)) 0
-    ∷ calls.totalOf (wide 8 Ready) (over 1 most) 0
-    ∷ calls.totalOf (wide 8 Ready) (over 1 most) 1
-    ∷ calls.totalOf (wide 8 Ready) (over 2 most) 1
-    ∷ calls.totalOf (wide 8 Ready) (over 2 most) 2
-    ∷ calls.totalOf (wide 8 Cold) (over 1 most) 2
+    calls.totalOf (wide 8 Ready) (over 1 (44 ∷ 1 ∷ replicate 6 0)) Service 0
+    ∷ calls.totalOf (wide 8 Ready) (over 1 most) Service 0
+    ∷ calls.totalOf (wide 8 Ready) (over 1 most) Service 1
+    ∷ calls.totalOf (wide 8 Ready) (over 2 most) Service 1
+    ∷ calls.totalOf (wide 8 Ready) (over 2 most) Service 2
+    ∷ calls.totalOf (wide 8 Cold) (over 1 most) Service 2
     ∷ []
     ≡ told 0 300 ∷ told 0 18446744073709551615 ∷ told 16 0 ∷ told 8 0 ∷ told 6 0 ∷ told 5 0 ∷ []
 
@@ -142,7 +143,7 @@ tallies =
     ∷ ridden (after 300 9 (cutOne 4 ∷ [])) 9 300
     ∷ ridden (after 300 10 (cutOne 0 ∷ [])) 9 300
     -- a ride that passed, a write of unit 1, and one that did not pass; a ride is refused while one is written
-    ∷ ridden (after 300 19 (begin 1 (3 ∷ []) ∷ replicate 5 step ++ after 7 3 (ride 9 ∷ cutOne 0 ∷ []))) 9 300
+    ∷ ridden (after 300 19 (begin Service 1 (3 ∷ []) ∷ replicate 5 step ++ after 7 3 (ride 9 ∷ cutOne 0 ∷ []))) 9 300
     -- two rides, the second after a cut and its repair
     ∷ ridden (after 300 12 (cutOne 0 ∷ wake ∷ replicate 9 step ++ after 500 19 (cutOne 0 ∷ []))) 0 800
     -- a sum of 65 bits is refused, and adds nothing

@@ -14,12 +14,14 @@ use mathlib.Core.Bool.{false, cond}
 use lib.Dec.{eqb}
 use lib.ListN.{length, getD, replicate}
 use Rattle.model.specs.declared.Plan.{Plan}
+use Rattle.model.specs.declared.Role.{Role}
 use Rattle.model.specs.declared.Direction.{Direction}
 use Rattle.model.specs.declared.Direction.the-variants.{AToB, BToA}
 use Rattle.model.specs.declared.Phase.{Phase}
 use Rattle.model.specs.declared.Phase.the-variants.{Cold, Ready, Writing, Recovering, Grouping}
 use Rattle.model.specs.declared.Inspection.{Inspection}
 use Rattle.model.specs.declared.Inspection.the-variants.{Refused, Suspect, AllOk}
+use Rattle.model.specs.Rights.{right}
 use Rattle.model.specs.Layout.{Copy, copyA, copyB, Cell, marker, byte, width, copyLength, base, total, place}
 use Rattle.model.specs.Refusals.{readNumber, inspectNumber, totalNumber}
 use Rattle.model.specs.Calls.{Device, Answer, Outcome, outcome, view, Total}
@@ -57,14 +59,15 @@ pub record Does (P : Outcome → Type 0) (d : Device) (image : List ℕ) (o : Ou
   pub accepted : o .number ≡ 0 → P o
   pub refused : ¬ (o .number ≡ 0) → o ≡ outcome (o .number) d image
 
--- "start's refusal returns k = 0, all widths 0, Cold, zero payload"; Ticket 9: "p = 1, as in a refused start"; Ticket 10: "a refused
--- start isn't" grouped. Accepted, it "keeps the plan as given".
+-- "start's refusal returns k = 0, all widths 0, Cold, zero payload"; Ticket 9: "p = 1, as in a refused start"; Ticket 10: "a
+-- refused start isn't" grouped; Ticket 11: "all nothing if refused". Accepted, it "keeps the plan as given".
 pub record Starts (p : Plan) (a : Answer) : Type 0 where
   pub kept : a .number ≡ 0 → a .device .plan ≡ p
   pub count : ¬ (a .number ≡ 0) → a .device .plan .count ≡ 0
   pub widths : ¬ (a .number ≡ 0) → a .device .plan .widths ≡ replicate 8 0
   pub page : ¬ (a .number ≡ 0) → a .device .plan .page ≡ 1
   pub ungrouped : ¬ (a .number ≡ 0) → a .device .plan .grouped ≡ false
+  pub rightless : ¬ (a .number ≡ 0) → (role : Role) (u : ℕ) → right (a .device .plan .rights) role u ≡ 0
   pub phase : a .device .phase ≡ Cold
   pub payload : a .device .payload ≡ replicate 256 0
   pub stores : a .device .stores ≡ 0
@@ -271,15 +274,15 @@ pub record Cuts (d : Device) (image : List ℕ) (bytes : List ℕ) (o : Outcome)
 
 -- ---- Looking: neither hands an image back, so neither changes a byte.
 -- "the part of the lent image that is copy A"; "an empty part when refused"
-pub record Reads (d : Device) (image : List ℕ) (u : ℕ) (part : List ℕ) : Type 0 where
-  pub refused : ¬ (readNumber (view d image) u ≡ 0) → part ≡ []
-  pub size : readNumber (view d image) u ≡ 0 → length part ≡ width (d .plan) u
-  pub bytes : readNumber (view d image) u ≡ 0
+pub record Reads (d : Device) (image : List ℕ) (role : Role) (u : ℕ) (part : List ℕ) : Type 0 where
+  pub refused : ¬ (readNumber (view d image) role u ≡ 0) → part ≡ []
+  pub size : readNumber (view d image) role u ≡ 0 → length part ≡ width (d .plan) u
+  pub bytes : readNumber (view d image) role u ≡ 0
       → (i : ℕ) → i < width (d .plan) u → getD part i 0 ≡ at (d .plan) image u (byte copyA i)
 
 -- a unit's total as a number, 0 when refused
-pub record Totals (d : Device) (image : List ℕ) (u : ℕ) (t : Total) : Type 0 where
-  pub number : t .number ≡ totalNumber (view d image) u
+pub record Totals (d : Device) (image : List ℕ) (role : Role) (u : ℕ) (t : Total) : Type 0 where
+  pub number : t .number ≡ totalNumber (view d image) role u
   pub refused : ¬ (t .number ≡ 0) → t .amount ≡ 0
   pub accepted : t .number ≡ 0 → t .amount ≡ held (d .plan) image u
 
@@ -298,14 +301,14 @@ pub record Demands (d : Device) (image : List ℕ) : Type 0 where
   pub lies : Lies (d .plan)
   pub start : Starts (d .plan) (calls.start (d .plan))
   pub format : Does (Formats d image) d image (calls.format d image)
-  pub begin : (u : ℕ) (payload : List ℕ) → Does (Begins d image u payload) d image (calls.begin d image u payload)
+  pub begin : (role : Role) (u : ℕ) (payload : List ℕ) → Does (Begins d image u payload) d image (calls.begin d image role u payload)
   pub ride : (turns : ℕ) → Does (Rides d image turns) d image (calls.ride d image turns)
   pub group : (g : List ℕ) → Does (Groups d image g) d image (calls.group d image g)
   pub step : Does (Steps d image) d image (calls.step d image)
   pub wake : Does (Wakes d image) d image (calls.wake d image)
   pub cut : (bytes : List ℕ) → Does (Cuts d image bytes) d image (calls.cut d image bytes)
-  pub read : (u : ℕ) → Reads d image u (calls.read d image u)
-  pub total : (u : ℕ) → Totals d image u (calls.totalOf d image u)
+  pub read : (role : Role) (u : ℕ) → Reads d image role u (calls.read d image role u)
+  pub total : (role : Role) (u : ℕ) → Totals d image role u (calls.totalOf d image role u)
   pub inspect : Inspects d image (calls.inspect d image)
 
 abbrev pub EveryCall : Type 0

@@ -3,6 +3,7 @@
 -- proofs/WorkedCases.antt has the theorems that the definitions give every row.
 use Prim.Native.Nat.{ℕ, zero, suc}
 use mathlib.Core.Path.{_≡_}
+use mathlib.Core.Bool.{false}
 use mathlib.Core.List.{List, [], _∷_, _++_, map}
 use lib.ListN.{replicate}
 use Rattle.model.specs.declared.Direction.the-variants.{AToB, BToA}
@@ -11,6 +12,8 @@ use Rattle.model.specs.declared.Inspection.the-variants.{Refused, Suspec
 use Rattle.model.specs.declared.Phase.{Phase}
 use Rattle.model.specs.declared.Phase.the-variants.{Cold, Ready, Writing, Recovering}
 use Rattle.model.specs.declared.Plan.{Plan}
+use Rattle.model.specs.declared.Role.the-variants.{Service}
+use Rattle.model.specs.Rights.{noRights}
 use Rattle.model.specs.Refusals.{Job, cold, ready, writing, recovering, readNumber, inspectNumber}
 use Rattle.model.specs.Calls.{Device, Answer, Outcome, outcome, view, zeroPayload}
 use Rattle.model.specs.Calls as calls
@@ -47,8 +50,8 @@ numbersIn s =
       step = calls.step (s .device) (s .image) .number;
       cut = calls.cut (s .device) (s .image) (0 ∷ []) .number;
       inspect = inspectNumber (view (s .device) (s .image));
-      read = readNumber (view (s .device) (s .image)) (s .unit);
-      begin = calls.begin (s .device) (s .image) (s .unit) (s .payload) .number;
+      read = readNumber (view (s .device) (s .image)) Service (s .unit);
+      begin = calls.begin (s .device) (s .image) Service (s .unit) (s .payload) .number;
     }
 
 -- a device of k units with the widths 2, w, 1, 0, 0 .. in a phase, over an image
@@ -202,7 +205,7 @@ outcomes =
     -- format: whatever stood there
     one (calls.format (device Cold held) (replicate 8 7 ++ (9 ∷ []))) (gives Ready zeroPayload fresh0 fresh1)
     -- begin: zeros after the payload, no store
-    ∷ one (calls.begin (device Ready held) (units fresh0 fresh1) 1 (3 ∷ [])) (gives (Writing 1 0) (3 ∷ replicate 255 0) fresh0 fresh1)
+    ∷ one (calls.begin (device Ready held) (units fresh0 fresh1) Service 1 (3 ∷ [])) (gives (Writing 1 0) (3 ∷ replicate 255 0) fresh0 fresh1)
     -- the seven stores of a write of width 2; the payload stays
     ∷ traced 7 (wrote 0 fresh0)
     (wrote 1 (2 ∷ 0 ∷ 0 ∷ 0 ∷ 0 ∷ [])
@@ -253,26 +256,30 @@ abbrev pub EveryOutcome : Type 0
 EveryOutcome = map (λ (r : Pair). r .computed) outcomes ≡ map (λ (r : Pair). r .expected) outcomes
 
 -- ---- Start, accepted and refused, and the part that read shows, also where the copies differ.
-abbrev answered : ℕ → ℕ → List ℕ → Answer
-answered n k widths =
+abbrev answered : ℕ → Plan → Answer
+answered n p =
     record {
       number = n;
-      device = record { plan = planned k widths; payload = replicate 256 0; phase = Cold; stores = 0 };
+      device = record { plan = p; payload = replicate 256 0; phase = Cold; stores = 0 };
     }
 
 abbrev start : ℕ → List ℕ → Answer
 start k widths = calls.start (planned k widths)
 
+-- no unit, no width and no right
+abbrev none : Plan
+none = record { count = 0; widths = replicate 8 0; page = 1; grouped = false; rights = noRights }
+
 abbrev pub EveryStart : Type 0
 EveryStart =
     start 2 (2 ∷ 1 ∷ replicate 6 300) ∷ start 9 (2 ∷ 1 ∷ replicate 6 1) ∷ start 2 (2 ∷ 300 ∷ replicate 6 1) ∷ []
-    ≡ answered 0 2 (2 ∷ 1 ∷ replicate 6 300) ∷ answered 1 0 (replicate 8 0) ∷ answered 2 0 (replicate 8 0) ∷ []
+    ≡ answered 0 (planned 2 (2 ∷ 1 ∷ replicate 6 300)) ∷ answered 1 none ∷ answered 2 none ∷ []
 
 abbrev parted : List ℕ
 parted = units (1 ∷ 10 ∷ 11 ∷ 12 ∷ 13 ∷ []) (1 ∷ 20 ∷ 21 ∷ [])
 
 abbrev reads : Phase → ℕ → List ℕ
-reads phase u = calls.read (device phase held) parted u
+reads phase u = calls.read (device phase held) parted Service u
 
 abbrev pub EveryPart : Type 0
 EveryPart =
@@ -296,7 +303,7 @@ noted cs =
     entry (l .job) (l .payload) (l .unit) (l .marker) (l .saved 1)
 
 abbrev write3 : Call
-write3 = begin 1 (3 ∷ [])
+write3 = begin Service 1 (3 ∷ [])
 
 -- a list of calls, and what the ledger has noted after it
 pub record Noted : Type 0 where
@@ -309,7 +316,7 @@ notes cs e = record { calls = cs; entry = e }
 abbrev pub entries : List Noted
 entries =
     notes [] (entry ready (replicate 256 0) 0 1 (0 ∷ []))
-    ∷ notes (wake ∷ begin 1 [] ∷ step ∷ []) (entry ready (replicate 256 0) 0 1 (0 ∷ []))
+    ∷ notes (wake ∷ begin Service 1 [] ∷ step ∷ []) (entry ready (replicate 256 0) 0 1 (0 ∷ []))
     ∷ notes (write3 ∷ []) (entry (writing 1 0) (3 ∷ []) 0 1 (0 ∷ []))
     -- a torn store counts
     ∷ notes (write3 ∷ cutOne 0 ∷ []) (entry cold (3 ∷ []) 1 1 (0 ∷ []))
@@ -390,7 +397,7 @@ counts =
     ∷ count (calls.format (counting 7 Cold held) good .device) 0
     -- a format that is refused keeps it
     ∷ count (calls.format (counting 7 Ready held) good .device) 7
-    ∷ count (calls.begin (counting 7 Ready held) good 1 (3 ∷ []) .device) 7
+    ∷ count (calls.begin (counting 7 Ready held) good Service 1 (3 ∷ []) .device) 7
     ∷ count (calls.wake (counting 7 Cold held) torn0 .device) 7
     -- a step, one that is refused, and a torn store
     ∷ count (calls.step (busy 7) torn0 .device) 8
@@ -426,22 +433,22 @@ worn cs =
     (completedIn plan219 cs) (tornIn plan219 cs) (ceiling plan219 cs)
 
 abbrev save0 : ℕ → List Call → List Call
-save0 n more = begin 0 (3 ∷ 4 ∷ []) ∷ replicate n step ++ more
+save0 n more = begin Service 0 (3 ∷ 4 ∷ []) ∷ replicate n step ++ more
 
 abbrev pub wearings : List Wearing
 wearings =
     -- a save: the count is the ceiling
     wearing (save0 7 []) 7 7 0 7
-    ∷ wearing (begin 1 (3 ∷ []) ∷ replicate 5 step) 5 5 0 5
+    ∷ wearing (begin Service 1 (3 ∷ []) ∷ replicate 5 step) 5 5 0 5
     -- a save that is cut at its last store, and its repair; and one whose repair is cut at its last store as well. With the torn
     -- stores counted in, they meet the ceiling.
     ∷ wearing (save0 6 (cutOne 0 ∷ wake ∷ step ∷ step ∷ step ∷ [])) 9 9 1 10
     ∷ wearing (save0 6 (cutOne 0 ∷ wake ∷ step ∷ step ∷ cutOne 0 ∷ wake ∷ step ∷ step ∷ step ∷ [])) 11 11 2 13
     -- a cut of a unit that isn't the widest
-    ∷ wearing (begin 1 (3 ∷ []) ∷ step ∷ step ∷ step ∷ step ∷ cutOne 0 ∷ wake ∷ step ∷ step ∷ []) 6 6 1 8
+    ∷ wearing (begin Service 1 (3 ∷ []) ∷ step ∷ step ∷ step ∷ step ∷ cutOne 0 ∷ wake ∷ step ∷ step ∷ []) 6 6 1 8
     -- cuts that tear nothing, and calls that are refused
     ∷ wearing (cutOne 0 ∷ cutOne 0 ∷ wake ∷ []) 0 0 0 6
-    ∷ wearing (begin 2 [] ∷ begin 0 [] ∷ step ∷ wake ∷ []) 0 0 0 0
+    ∷ wearing (begin Service 2 [] ∷ begin Service 0 [] ∷ step ∷ wake ∷ []) 0 0 0 0
     ∷ []
 
 abbrev pub EveryWear : Type 0

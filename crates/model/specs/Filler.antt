@@ -5,6 +5,7 @@ use mathlib.Core.Path.{_≡_}
 use mathlib.Core.List.{List}
 use lib.ListN.{length}
 use Rattle.model.specs.declared.Plan.{Plan}
+use Rattle.model.specs.declared.Role.{Role}
 use Rattle.model.specs.Layout.{Cell, InUnit, width, get}
 use Rattle.model.specs.Calls.{Device, Outcome, outcome}
 use Rattle.model.specs.Calls as calls
@@ -26,8 +27,8 @@ pub record SameOutcome (o o′ : Outcome) : Type 0 where
 pub record Unread (d : Device) (x y : List ℕ) : Type 0 where
   pub answered : (cs : List Call) → answers cs (outcome 0 d x) ≡ answers cs (outcome 0 d y)
   pub left : (cs : List Call) → SameOutcome (run cs (outcome 0 d x)) (run cs (outcome 0 d y))
-  pub shown : (u : ℕ) → calls.read d x u ≡ calls.read d y u
-  pub totalled : (u : ℕ) → calls.totalOf d x u ≡ calls.totalOf d y u
+  pub shown : (role : Role) (u : ℕ) → calls.read d x role u ≡ calls.read d y role u
+  pub totalled : (role : Role) (u : ℕ) → calls.totalOf d x role u ≡ calls.totalOf d y role u
   pub inspected : calls.inspect d x ≡ calls.inspect d y
 
 abbrev pub FillerUnread : Type 0

@@ -67,6 +67,10 @@ pageAt p at = at / p .page * p .page
 unfoldable pub putPage : Plan → List ℕ → ℕ → Cell → List ℕ → List ℕ
 putPage p image u c bytes = sets image (pageAt p (place p u c)) (take (p .page) bytes)
 
+-- a whole unit, marker, copies and filler, as a part of the image
+abbrev pub unitOf : Plan → List ℕ → ℕ → List ℕ
+unitOf p image u = take (unitLength p u) (drop (base p u) image)
+
 -- a whole copy, as a part of the image
 unfoldable pub copyOf : Plan → List ℕ → ℕ → Copy → List ℕ
 copyOf p image u c = take (width p u) (drop (place p u (byte c 0)) image)

@@ -6,6 +6,7 @@ use mathlib.Core.Bool.{Bool, false, cond, not, _&&_}
 use lib.Dec.{eqb}
 use lib.ListN.{length, replicate}
 use Rattle.model.specs.declared.Plan.{Plan}
+use Rattle.model.specs.declared.Role.{Role}
 use Rattle.model.specs.Marker.{OK, A, B, End, completed, tornBy, markerLeft}
 use Rattle.model.specs.Plans.{width}
 use Rattle.model.specs.Groups.{Write, write, last, padded, payloadOf, stands, remaining, writeAt, isLastWrite}
@@ -14,7 +15,7 @@ use Rattle.model.specs.Turns.{plus}
 
 -- the calls of demand 3's lists, with their arguments
 pub data Call : Type 0 where
-  begin : ℕ → List ℕ → Call
+  begin : Role → ℕ → List ℕ → Call
   ride : ℕ → Call
   group : List ℕ → Call
   step : Call
@@ -55,7 +56,7 @@ judged p l = record { plan = p; short = false; payload = l .payload; job = l .jo
 
 -- "In the list each call answers that refusal's number, otherwise 0."
 unfoldable pub told : Plan → Ledger → Call → ℕ
-told p l (begin u payload) = beginNumber (judged p l) u (length payload)
+told p l (begin role u payload) = beginNumber (judged p l) role u (length payload)
 told p l (ride turns) = rideNumber (judged p l) (l .written 0) turns
 told p l (group g) = groupNumber (judged p l) g
 told p l step = stepNumber (judged p l)
@@ -169,7 +170,7 @@ wasCut p l bytes (grouping i made) =
 -- "Begin: Writing that unit, 0 made, payload noted." A ride begins a write of unit 0, a group that of its record.
 -- "Wake: Ready if the marker is 1, otherwise Recovering the unit last written, 0 made."; or on to a standing record
 unfoldable pub accepted : Plan → Ledger → Call → Ledger
-accepted p l (begin u payload) = noted l (writing u 0) payload
+accepted p l (begin role u payload) = noted l (writing u 0) payload
 accepted p l (ride turns) = noted l (writing 0 0) (plus (l .written 0) turns)
 accepted p l (group g) = noted l (grouping 0 0) (payloadOf p g)
 accepted p l step = stepped p l (l .job)

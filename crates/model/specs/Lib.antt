@@ -1,6 +1,7 @@
 pub mod Numbers
 pub mod Marker
 pub mod Plans
+pub mod Rights
 pub mod Layout
 pub mod Turns
 pub mod Groups
@@ -17,12 +18,14 @@ pub mod Filler
 pub mod Wear
 pub mod Totals
 pub mod Together
+pub mod Roles
 pub mod Drive
 pub mod Cases
 pub mod Edges
 pub mod CasesOfRides
 pub mod CasesOfPages
 pub mod CasesOfGroups
+pub mod CasesOfRoles
 pub mod Records
 pub mod Demands
 pub mod Refuses

@@ -1,6 +1,7 @@
 -- The refusals by name; 0 is accepted. src/refusals.rt and the project's README have the same names. Document 01, 'Refusals',
 -- has 1 to 10; brake curves (Ticket 1) add 11 to 13, memory from another product (Ticket 4) adds 14, wheel turns (Ticket 7)
--- add 15 and 16, chips that store by page (Ticket 9) add 17 and 18, ride and rider saved together (Ticket 10) adds 19 to 21.
+-- add 15 and 16, chips that store by page (Ticket 9) add 17 and 18, ride and rider saved together (Ticket 10) adds 19 to 21, rider,
+-- gym, service (Ticket 11) adds 22.
 use Prim.Native.Nat.{ℕ}
 
 abbrev pub BAD-COUNT : ℕ
@@ -65,3 +66,6 @@ UNIT-TAKEN = 20
 
 abbrev pub NO-RECORD : ℕ
 NO-RECORD = 21
+
+abbrev pub NO-RIGHT : ℕ
+NO-RIGHT = 22

@@ -1,6 +1,6 @@
 -- THE POWER-CUT THEOREM, demand 3 of document 01, as one statement. It is proved in proofs/Theorem.antt.
 --
--- Format a device. Then let anything happen: begins of any unit with any payload, rides, groups of any bytes, steps, power cuts that
+-- Format a device. Then let anything happen: begins by any role, of any unit, with any payload, rides, groups of any bytes, steps, power cuts that
 -- leave any bytes in a page, wakes, in any order, calls that are refused among them; and at last one more cut, which is accepted. Then
 -- one wake and an exact number of steps bring every marker to OK and both copies of every unit to the payload of its last write that
 -- passed, where a group's members pass all at once; and no group record is left standing.
@@ -21,7 +21,7 @@ use Rattle.model.specs.Ledger.{Call, begin, ride, group, step, cut, wake
 
 -- ---- Lists of calls: each call gets the device and the image that the one before left.
 unfoldable pub call : Call → Outcome → Outcome
-call (begin u payload) o = calls.begin (o .device) (o .image) u payload
+call (begin role u payload) o = calls.begin (o .device) (o .image) role u payload
 call (ride turns) o = calls.ride (o .device) (o .image) turns
 call (group g) o = calls.group (o .device) (o .image) g
 call step o = calls.step (o .device) (o .image)

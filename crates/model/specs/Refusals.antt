@@ -7,10 +7,12 @@ use mathlib.Core.Bool.{Bool, true, false, cond, not, _||_}
 use lib.Dec.{eqb, ltb, leb}
 use lib.ListN.{length}
 use Rattle.model.specs.declared.Plan.{Plan}
-pub use Rattle.model.specs.Numbers.{BAD-COUNT, BAD-WIDTH, SHORT-IMAGE, BAD-JOB, WRONG-PHASE, NO-UNIT, WRONG-SIZE, BAD-MARKER, FOREIGN-MARKER, SUM-TOO-LARGE, NO-TOTAL, BAD-PAGE, WRONG-TEAR, BAD-GROUP, UNIT-TAKEN, NO-RECORD}
+use Rattle.model.specs.declared.Role.{Role}
+pub use Rattle.model.specs.Numbers.{BAD-COUNT, BAD-WIDTH, SHORT-IMAGE, BAD-JOB, WRONG-PHASE, NO-UNIT, WRONG-SIZE, BAD-MARKER, FOREIGN-MARKER, SUM-TOO-LARGE, NO-TOTAL, BAD-PAGE, WRONG-TEAR, BAD-GROUP, UNIT-TAKEN, NO-RECORD, NO-RIGHT}
 unfoldable pub use Rattle.model.specs.Plans.{badCount, badWidths, badPage}
 use Rattle.model.specs.Plans.{width}
 use Rattle.model.specs.Marker.{OK, isForeign}
+use Rattle.model.specs.Rights.{maySee, mayWrite}
 use Rattle.model.specs.Turns.{amount}
 use Rattle.model.specs.Groups.{Write, last, isRecord, members, unsplit, overlaps, narrow, given, writes, writeAt}
 
@@ -116,20 +118,25 @@ cutNumber v size = first (deviceRow v ++ (WRONG-TEAR when not (eqb size (v .plan
 unfoldable pub inspectNumber : View → ℕ
 inspectNumber v = first (deviceRow v)
 
-unfoldable pub readNumber : View → ℕ → ℕ
-readNumber v u =
+-- Ticket 11: "22 when the right is lacking, tested after 6 and any group check". It stands before 8, so that a marker which a role may
+-- not see shows in no answer.
+unfoldable pub readNumber : View → Role → ℕ → ℕ
+readNumber v role u =
     first
     (deviceRow v
-    ++ (WRONG-PHASE when not (isReady (v .job)) ∷ NO-UNIT when leb (v .plan .count) u ∷ BAD-MARKER when not (eqb (v .marker u) OK) ∷ []))
+    ++ (WRONG-PHASE when not (isReady (v .job))
+    ∷ NO-UNIT when leb (v .plan .count) u
+    ∷ NO-RIGHT when not (maySee (v .plan .rights) role u) ∷ BAD-MARKER when not (eqb (v .marker u) OK) ∷ []))
 
 -- Ticket 10: the record "takes no ordinary begin"; 20 "also for a begin .. on it", "after 6"
-unfoldable pub beginNumber : View → ℕ → ℕ → ℕ
-beginNumber v u size =
+unfoldable pub beginNumber : View → Role → ℕ → ℕ → ℕ
+beginNumber v role u size =
     first
     (deviceRow v
     ++ (WRONG-PHASE when not (isReady (v .job))
     ∷ NO-UNIT when leb (v .plan .count) u
     ∷ UNIT-TAKEN when isRecord (v .plan) u
+    ∷ NO-RIGHT when not (mayWrite (v .plan .rights) role u)
     ∷ WRONG-SIZE when not (eqb size (width (v .plan) u))
     ∷ BAD-MARKER when not (eqb (v .marker u) OK)
     ∷ []))
@@ -148,12 +155,13 @@ rideNumber v held turns =
     ∷ []))
 
 -- a unit's total as a number is refused as read is, and last if the unit is not eight bytes wide
-unfoldable pub totalNumber : View → ℕ → ℕ
-totalNumber v u =
+unfoldable pub totalNumber : View → Role → ℕ → ℕ
+totalNumber v role u =
     first
     (deviceRow v
     ++ (WRONG-PHASE when not (isReady (v .job))
     ∷ NO-UNIT when leb (v .plan .count) u
+    ∷ NO-RIGHT when not (maySee (v .plan .rights) role u)
     ∷ BAD-MARKER when not (eqb (v .marker u) OK)
     ∷ NO-TOTAL when not (eqb (width (v .plan) u) 8)
     ∷ []))

@@ -6,8 +6,11 @@ use mathlib.Core.Bool.{true, false, cond}
 use lib.Dec.{eqb}
 use mathlib.Core.Path.{_≡_}
 use mathlib.Core.List.{List}
-use lib.ListN.{length}
+use lib.ListN.{length, getD}
 use Rattle.model.specs.declared.Plan.{Plan}
+use Rattle.model.specs.declared.Rights.{Rights}
+use Rattle.model.specs.declared.Role.{Role}
+use Rattle.model.specs.declared.Role.the-variants.{Rider, Gym, Service}
 use Rattle.model.specs.declared.Direction.{Direction}
 use Rattle.model.specs.declared.Phase.the-variants.{Cold, Ready, Writing, Recovering, Grouping}
 use Rattle.model.specs.Layout.{marker, width, total}
@@ -24,11 +27,11 @@ pub record First (order : ℕ → ℕ) (Applies : ℕ → Type 0) (n : ℕ) : Ty
   pub first : (k : ℕ) → Applies k → (1 ≤ order n) × (order n ≤ order k)
 
 -- "0 is accepted. The lowest number that applies is given." Ticket 9: "17 for another page size, tested after 2; 18 for a cut of other
--- than p bytes, tested after 4". Ticket 10: 19, 20 and 21 are "all after 6, in this order, and then 8". So they stand between 20 and
--- 30, between 40 and 50, and between 60 and 70.
+-- than p bytes, tested after 4". Ticket 10: 19, 20 and 21 are "all after 6, in this order, and then 8". Ticket 11: 22 is "tested after 6
+-- and any group check". So they stand between 20 and 30, between 40 and 50, and between 60 and 70.
 abbrev pub refusalOrder : ℕ → ℕ
 refusalOrder n =
-    cond (eqb n 17) 25 (cond (eqb n 18) 45 (cond (eqb n 19) 61 (cond (eqb n 20) 62 (cond (eqb n 21) 63 (10 * n)))))
+    cond (eqb n 17) 25 (cond (eqb n 18) 45 (cond (eqb n 19) 61 (cond (eqb n 20) 62 (cond (eqb n 21) 63 (cond (eqb n 22) 64 (10 * n))))))
 
 abbrev pub Lowest : (ℕ → Type 0) → ℕ → Type 0
 Lowest Applies n = First refusalOrder Applies n
@@ -88,18 +91,26 @@ pub data BadStep (d : Device) (image : List ℕ) : ℕ → Type 0 where
   cold : d .phase ≡ Cold → BadStep d image 5
   ready : d .phase ≡ Ready → BadStep d image 5
 
--- "begin and read outside Ready"; "6 unit k or more"; "8 that unit's marker isn't 1"
-pub data BadRead (d : Device) (image : List ℕ) (u : ℕ) : ℕ → Type 0 where
-  device : {n : ℕ} → BadDevice d image n → BadRead d image u n
-  phase : ¬ (d .phase ≡ Ready) → BadRead d image u 5
-  unit : d .plan .count ≤ u → BadRead d image u 6
-  mark : ¬ (at (d .plan) image u marker ≡ 1) → BadRead d image u 8
+-- Ticket 11: the table "gives each role, per unit: nothing, see, or see and write": 1 for see, 2 for see and write
+abbrev pub granted : Rights → Role → ℕ → ℕ
+granted rights Rider u = getD (rights .rider) u 0
+granted rights Gym u = getD (rights .gym) u 0
+granted rights Service u = getD (rights .service) u 0
 
--- "7 payload length not w (begin)"; Ticket 10: the group record "takes no ordinary begin"
-pub data BadBegin (d : Device) (image : List ℕ) (u : ℕ) (payload : List ℕ) : ℕ → Type 0 where
-  asRead : {n : ℕ} → BadRead d image u n → BadBegin d image u payload n
-  size : ¬ (length payload ≡ width (d .plan) u) → BadBegin d image u payload 7
-  theRecord : d .plan .grouped ≡ true → IsLast (d .plan) u → BadBegin d image u payload 20
+-- "begin and read outside Ready"; "6 unit k or more"; "8 that unit's marker isn't 1"; "22 when the right is lacking": read wants see
+pub data BadRead (d : Device) (image : List ℕ) (role : Role) (u : ℕ) : ℕ → Type 0 where
+  device : {n : ℕ} → BadDevice d image n → BadRead d image role u n
+  phase : ¬ (d .phase ≡ Ready) → BadRead d image role u 5
+  unit : d .plan .count ≤ u → BadRead d image role u 6
+  hidden : ¬ (granted (d .plan .rights) role u ≡ 1) → ¬ (granted (d .plan .rights) role u ≡ 2) → BadRead d image role u 22
+  mark : ¬ (at (d .plan) image u marker ≡ 1) → BadRead d image role u 8
+
+-- "7 payload length not w (begin)"; Ticket 10: the group record "takes no ordinary begin"; begin wants see and write
+pub data BadBegin (d : Device) (image : List ℕ) (role : Role) (u : ℕ) (payload : List ℕ) : ℕ → Type 0 where
+  asRead : {n : ℕ} → BadRead d image role u n → BadBegin d image role u payload n
+  size : ¬ (length payload ≡ width (d .plan) u) → BadBegin d image role u payload 7
+  theRecord : d .plan .grouped ≡ true → IsLast (d .plan) u → BadBegin d image role u payload 20
+  unwritable : ¬ (granted (d .plan .rights) role u ≡ 2) → BadBegin d image role u payload 22
 
 -- Ticket 7: "15 if the sum exceeds 64 bits, tested after 8; 16 if unit 0's width isn't 8, tested after 5"
 pub data BadRide (d : Device) (image : List ℕ) (turns : ℕ) : ℕ → Type 0 where
@@ -126,22 +137,23 @@ pub data BadGroup (d : Device) (image g : List ℕ) : ℕ → Type 0 where
       → BadGroup d image g 8
 
 -- a unit's total as a number: refused as read is, and last where the unit is not eight bytes wide
-pub data BadTotal (d : Device) (image : List ℕ) (u : ℕ) : ℕ → Type 0 where
-  asRead : {n : ℕ} → BadRead d image u n → BadTotal d image u n
-  otherWidth : ¬ (width (d .plan) u ≡ 8) → BadTotal d image u 16
+pub data BadTotal (d : Device) (image : List ℕ) (role : Role) (u : ℕ) : ℕ → Type 0 where
+  asRead : {n : ℕ} → BadRead d image role u n → BadTotal d image role u n
+  otherWidth : ¬ (width (d .plan) u ≡ 8) → BadTotal d image role u 16
 
 -- ---- Every call's number, of every device, image and argument. "Cut and inspect give 1 to 4.", and a cut 18.
 pub record Refuses (d : Device) (image : List ℕ) : Type 0 where
   pub start : Lowest (BadPlan (d .plan)) (calls.start (d .plan) .number)
   pub format : Lowest (BadFormat d image) (calls.format d image .number)
-  pub begin : (u : ℕ) (payload : List ℕ) → Lowest (BadBegin d image u payload) (calls.begin d image u payload .number)
+  pub begin : (role : Role) (u : ℕ) (payload : List ℕ)
+      → Lowest (BadBegin d image role u payload) (calls.begin d image role u payload .number)
   pub ride : (turns : ℕ) → First rideOrder (BadRide d image turns) (calls.ride d image turns .number)
   pub group : (g : List ℕ) → Lowest (BadGroup d image g) (calls.group d image g .number)
   pub step : Lowest (BadStep d image) (calls.step d image .number)
   pub wake : Lowest (BadWake d image) (calls.wake d image .number)
   pub cut : (bytes : List ℕ) → Lowest (BadCut d image bytes) (calls.cut d image bytes .number)
-  pub read : (u : ℕ) → Lowest (BadRead d image u) (readNumber (view d image) u)
-  pub total : (u : ℕ) → Lowest (BadTotal d image u) (totalNumber (view d image) u)
+  pub read : (role : Role) (u : ℕ) → Lowest (BadRead d image role u) (readNumber (view d image) role u)
+  pub total : (role : Role) (u : ℕ) → Lowest (BadTotal d image role u) (totalNumber (view d image) role u)
   pub inspect : Lowest (BadDevice d image) (inspectNumber (view d image))
 
 abbrev pub RefusedExactly : Type 0

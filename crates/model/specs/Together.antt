@@ -34,7 +34,7 @@ passing p l e (recovering u made) = []
 passing p l e (grouping i made) = cond (passesAt p l (writeAt p (l .payload) i) (suc made) e) (countWith p (l .payload) i) []
 
 abbrev pub passedBy : Plan → Ledger → Call → List Write
-passedBy p l (begin u payload) = []
+passedBy p l (begin role u payload) = []
 passedBy p l (ride turns) = []
 passedBy p l (group g) = []
 passedBy p l step = passing p l completed (l .job)
@@ -48,7 +48,7 @@ passed p l (c ∷ cs) = cond (eqb (told p l c) 0) (passedBy p l c) [] ++ passed 
 
 -- a call that asks for a write
 abbrev pub asks : Call → Bool
-asks (begin u payload) = true
+asks (begin role u payload) = true
 asks (ride turns) = true
 asks (group g) = true
 asks step = false
@@ -93,7 +93,7 @@ AllOrNone =
 -- ---- And where nothing else is asked for, with no word of the ledger: steps, cuts and wakes, as many and in whatever order.
 abbrev pub NoWrite : List Call → Type 0
 NoWrite [] = Unit
-NoWrite (begin u payload ∷ cs) = ⊥
+NoWrite (begin role u payload ∷ cs) = ⊥
 NoWrite (ride turns ∷ cs) = ⊥
 NoWrite (group g ∷ cs) = ⊥
 NoWrite (step ∷ cs) = NoWrite cs

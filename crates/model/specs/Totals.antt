@@ -5,14 +5,16 @@
 use Prim.Native.Nat.{ℕ, zero, suc, _+_}
 use mathlib.Core.Path.{_≡_}
 use mathlib.Core.List.{List, [], _∷_, _++_}
-use mathlib.Core.Bool.{Bool, false, cond}
+use mathlib.Core.Bool.{Bool, true, false, cond}
 use lib.ListN.{replicate}
 use Rattle.model.specs.declared.Plan.{Plan}
+use Rattle.model.specs.declared.Role.{Role}
 use Rattle.model.specs.Marker.{End, completed, tornBy}
 use Rattle.model.specs.Layout.{Copy, width, copyOf}
 use Rattle.model.specs.Turns.{amount}
 use Rattle.model.specs.Groups.{write, among, members}
 use Rattle.model.specs.Refusals.{Job, cold, ready, writing, recovering, grouping}
+use Rattle.model.specs.Rights.{maySee}
 use Rattle.model.specs.Calls.{Device, Outcome}
 use Rattle.model.specs.Calls as calls
 use Rattle.model.specs.Ledger.{Ledger, Call, begin, ride, group, step, cut, wake, opening, told, passesAt, fed}
@@ -28,7 +30,7 @@ passesNext p l e (recovering u made) = false
 passesNext p l e (grouping i made) = false
 
 abbrev pub passesBy : Plan → Ledger → Call → Bool
-passesBy p l (begin u payload) = false
+passesBy p l (begin role u payload) = false
 passesBy p l (ride turns) = false
 passesBy p l (group g) = false
 passesBy p l step = passesNext p l completed (l .job)
@@ -37,7 +39,7 @@ passesBy p l wake = false
 
 -- the turns that are due once an accepted call is made: those of a ride; a begin's write has none, nor a group's
 abbrev pub dueAfter : Call → List ℕ → List ℕ
-dueAfter (begin u payload) due = []
+dueAfter (begin role u payload) due = []
 dueAfter (ride turns) due = turns ∷ []
 dueAfter (group g) due = []
 dueAfter step due = due
@@ -70,7 +72,7 @@ turnsOver p cs = sum (passed p (opening p) [] cs)
 -- "other units may be written in that list, unit 0 only through rides": no begin of unit u, and no group that has it
 abbrev pub OnlyRides : Plan → ℕ → List Call → Type 0
 OnlyRides p u [] = Unit
-OnlyRides p u (begin v payload ∷ cs) = ¬ (v ≡ u) × OnlyRides p u cs
+OnlyRides p u (begin role v payload ∷ cs) = ¬ (v ≡ u) × OnlyRides p u cs
 OnlyRides p u (ride turns ∷ cs) = OnlyRides p u cs
 OnlyRides p u (group g ∷ cs) = (among u (members p g) ≡ false) × OnlyRides p u cs
 OnlyRides p u (step ∷ cs) = OnlyRides p u cs
@@ -84,9 +86,10 @@ pub record Totalled (p : Plan) (cutOff : Outcome) (turns : ℕ) : Type 0 where
   pub accepted : answers (repair steps) cutOff ≡ replicate (1 + steps) 0
   -- "taken from copy A"; copy B has the same
   pub holds : (c : Copy) → amount (copyOf p (run (repair steps) cutOff .image) 0 c) ≡ turns
-  -- and the console shows it
+  -- and the console shows it, to a role that may see it
   pub shows : width p 0 ≡ 8
-      → calls.totalOf (run (repair steps) cutOff .device) (run (repair steps) cutOff .image) 0 ≡ record { number = 0; amount = turns }
+      → (role : Role) → maySee (p .rights) role 0 ≡ true
+      → calls.totalOf (run (repair steps) cutOff .device) (run (repair steps) cutOff .image) role 0 ≡ record { number = 0; amount = turns }
 
 -- "For every list of ride, step, cut and wake from a formatted device ending in a cut .. the total equals the sum over rides whose
 -- write passed". Where unit 0 is not eight bytes wide every ride is refused: the sum is 0, and the unit's bytes are zeros.

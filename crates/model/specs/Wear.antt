@@ -26,7 +26,7 @@ overAccepted each p l (c ∷ cs) = ifAccepted (told p l c) (each l c) + overAcce
 
 -- "the completed stores of the list": an accepted step completes one
 abbrev pub completes : Ledger → Call → ℕ
-completes l (begin u payload) = 0
+completes l (begin role u payload) = 0
 completes l (ride turns) = 0
 completes l (group g) = 0
 completes l step = 1
@@ -42,7 +42,7 @@ tornAt (recovering u made) = 1
 tornAt (grouping i made) = 1
 
 abbrev pub tears : Ledger → Call → ℕ
-tears l (begin u payload) = 0
+tears l (begin role u payload) = 0
 tears l (ride turns) = 0
 tears l (group g) = 0
 tears l step = 0
@@ -58,7 +58,7 @@ widest p zero = 0
 widest p (suc n) = max (widest p n) (width p n)
 
 abbrev pub allows : Plan → Ledger → Call → ℕ
-allows p l (begin u payload) = 2 * width p u + 3
+allows p l (begin role u payload) = 2 * width p u + 3
 allows p l (ride turns) = 2 * width p 0 + 3
 allows p l (group g) = storesOf p (members p g) + 2 * (2 * width p (last p) + 3)
 allows p l step = 0

@@ -62,3 +62,6 @@ pub const UNIT_TAKEN: u16 = 20;
 
 // There is no group record, or it is too narrow.
 pub const NO_RECORD: u16 = 21;
+
+// The role has no right to see the unit, or to write it.
+pub const NO_RIGHT: u16 = 22;

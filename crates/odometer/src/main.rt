@@ -3,6 +3,8 @@
 use io::print_decimal;
 use libc::STDOUT_FILENO;
 use model::Plan;
+use model::Role;
+use rights::service_rights;
 use store::Device;
 
 fn say(word: &[u8], number: u64) {
@@ -13,7 +15,7 @@ fn say(word: &[u8], number: u64) {
 
 // The total that a unit holds, or why there is none to show.
 fn show(device: Device, image: &[u8], unit: u16) {
-    let total = device.total(image, unit);
+    let total = device.total(image, Role::Service, unit);
     if total.number != 0 {
         say(b"no total: ", total.number as u64);
         return;
@@ -43,6 +45,7 @@ fn formatted(image: &mut [u8]) -> Device {
         widths: [8, 1, 0, 0, 0, 0, 0, 0],
         page: 1,
         grouped: false,
+        rights: service_rights(),
     };
     let started = Device::start(plan);
     let ready = started.device.format(&mut image[..]);

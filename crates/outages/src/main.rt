@@ -14,7 +14,9 @@ use check::same;
 use libc::STDOUT_FILENO;
 use model::Inspection;
 use model::Plan;
+use model::Role;
 use replay::outage;
+use rights::service_rights;
 use store::Device;
 ghost use Prim.Native.Nat.{_+_, _*_, _≤_};
 
@@ -27,12 +29,13 @@ fn save_back(page: u16, calls: &[u8], m: u8) -> u8
         widths: [3, 0, 0, 0, 0, 0, 0, 0],
         page: page,
         grouped: false,
+        rights: service_rights(),
     };
     let mut image = [0u8; 48];
     let torn = [m; 16];
     let size = page as usize;
     let repaired = outage(plan, &mut image, calls, &torn[0..size]);
-    let saved = repaired.device.read(&image, 0);
+    let saved = repaired.device.read(&image, Role::Service, 0);
     if same(saved, b"old") {
         return b'o';
     }
@@ -44,16 +47,16 @@ fn save_back(page: u16, calls: &[u8], m: u8) -> u8
 
 // Whether the three units have these bytes, and the record zeros.
 fn holds(device: Device, image: &[u8], first: &[u8], second: &[u8]) -> bool {
-    if !same(device.read(image, 0), first) {
+    if !same(device.read(image, Role::Service, 0), first) {
         return false;
     }
-    if !same(device.read(image, 1), second) {
+    if !same(device.read(image, Role::Service, 1), second) {
         return false;
     }
-    if !same(device.read(image, 2), &[4, 5, 6]) {
+    if !same(device.read(image, Role::Service, 2), &[4, 5, 6]) {
         return false;
     }
-    same(device.read(image, 3), &[0, 0, 0, 0, 0, 0])
+    same(device.read(image, Role::Service, 3), &[0, 0, 0, 0, 0, 0])
 }
 
 fn all_ok(device: Device, image: &[u8]) -> bool {
@@ -74,6 +77,7 @@ fn group_back(page: u16, calls: &[u8], m: u8) -> u8
         widths: [2, 1, 3, 6, 0, 0, 0, 0],
         page: page,
         grouped: true,
+        rights: service_rights(),
     };
     let mut image = [0u8; 192];
     let torn = [m; 16];

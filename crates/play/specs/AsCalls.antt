@@ -7,6 +7,7 @@ use Rattle.list.specs.declared.Kind.the-variants.{Byte}
 use Rattle.list.specs.Items.{valuesAt}
 use Rattle.script.specs.declared.Form.{Form}
 use Rattle.script.specs.declared.Form.the-variants.{Plan, Write, Step, Cut, Wake, Show}
+use Rattle.model.specs.declared.Role.the-variants.{Service}
 use Rattle.model.specs.Calls.{Device, outcome}
 use Rattle.model.specs.Ledger.{Call, begin, step, cut, wake}
 use Rattle.model.specs.PowerCut.{run}
@@ -14,7 +15,7 @@ use Rattle.play.specs.Plays.{plays}
 
 abbrev pub callsOfLine : Form → List ℕ → List Call
 callsOfLine (Plan at count page) line = []
-callsOfLine (Write unit at count) line = begin unit (valuesAt Byte line at count) ∷ []
+callsOfLine (Write unit at count) line = begin Service unit (valuesAt Byte line at count) ∷ []
 callsOfLine (Step n) line = replicate n step
 callsOfLine (Cut at count) line = cut (valuesAt Byte line at count) ∷ []
 callsOfLine Wake line = wake ∷ []

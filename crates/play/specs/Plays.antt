@@ -14,6 +14,7 @@ use Rattle.list.specs.Items.{valuesAt}
 use Rattle.printing.specs.Printed.{answerLine, lineMost}
 use Rattle.text.specs.Wrote.{Wrote}
 use Rattle.store.specs.Modelled.{modelled}
+use Rattle.model.specs.declared.Role.the-variants.{Service}
 use Rattle.model.specs.Steps.{steps}
 use Rattle.model.specs.declared.Plan as model
 use Rattle.model.specs.Layout.{total}
@@ -37,7 +38,7 @@ Held p image = (startNumber p ≡ 0) × (total p ≤ length image)
 -- a form of a line after the first. A plan may not stand there, and show only looks.
 unfoldable pub plays : Form → List ℕ → Device → List ℕ → Outcome
 plays (Plan at count page) line d image = outcome 0 d image
-plays (Write unit at count) line d image = calls.begin d image unit (valuesAt Byte line at count)
+plays (Write unit at count) line d image = calls.begin d image Service unit (valuesAt Byte line at count)
 plays (Step n) line d image = steps n d image
 plays (Cut at count) line d image = calls.cut d image (valuesAt Byte line at count)
 plays Wake line d image = calls.wake d image

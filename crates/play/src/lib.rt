@@ -2,9 +2,11 @@
 // All lines are printed into one lent buffer; `flush` alone writes it out. Its users are our own programs, which lend it room enough.
 use layout::base_of;
 use model::Plan;
+use model::Role;
 use printing::put_answer;
 use printing::put_unit;
 use reader::Read;
+use rights::service_rights;
 use script::Form;
 use store::Answer;
 use store::Device;
@@ -12,6 +14,7 @@ ghost use mathlib.Core.Path.{_≡_};
 ghost use mathlib.Core.Bool.{false};
 ghost use Prim.Native.Nat.{_+_, _<_, _≤_};
 ghost use lib.ListN.{length};
+ghost use Rattle.model.specs.declared.Role.the-variants.{Service};
 ghost use Rattle.model.specs.Refusals.{startNumber};
 ghost use Rattle.model.specs.Calls.{begin, cut};
 ghost use Rattle.store.specs.Modelled.{modelled, Gives};
@@ -102,11 +105,11 @@ fn open(plan: Plan, image: &mut [u8]) -> Answer
 fn write(device: Device, image: &[u8], line: &[u8], unit: u16, at: usize, count: usize) -> Answer
     requires { ⌜ count ≤ 256 ⌝ }
     ensures { λ r. ⌜ Gives r (now (image .entry))
-        (begin (modelled device) (now (image .entry)) unit (valuesAt Byte (now (line .entry)) at count)) ⌝ }
+        (begin (modelled device) (now (image .entry)) Service unit (valuesAt Byte (now (line .entry)) at count)) ⌝ }
 {
     let mut payload = [0u8; 256];
     script::bytes_into(line, at, count, &mut payload);
-    device.begin(image, unit, &payload[..count])
+    device.begin(image, Role::Service, unit, &payload[..count])
 }
 
 // Cuts the power, with the bytes that a line lists.
@@ -249,6 +252,7 @@ fn run(text: &[u8], image: &mut [u8], out: &mut [u8]) -> usize
         widths: widths,
         page: page,
         grouped: false,
+        rights: service_rights(),
     };
     play_plan(text, end + 1, plan, image, out)
 }

@@ -3,6 +3,7 @@ use Prim.Native.Nat.{ℕ}
 use mathlib.Core.Path.{_≡_, refl}
 use mathlib.Core.List.{List, [], _∷_, _++_}
 use mathlib.Core.Bool.{false}
+use Rattle.model.specs.Rights.{serviceRights}
 use Rattle.model.specs.declared.Plan.{Plan}
 use Rattle.model.specs.Layout.{wholePages, base, get, copyOf}
 use Rattle.token.specs.Ascii.{ascii}
@@ -11,7 +12,7 @@ use Rattle.printing.specs.Printed.{numbered, answerLine, listed, unitTex
 
 -- `(plan (2 1))`
 abbrev twoUnits : Plan
-twoUnits = record { count = 2; widths = 2 ∷ 1 ∷ 0 ∷ 0 ∷ 0 ∷ 0 ∷ 0 ∷ 0 ∷ []; page = 1; grouped = false }
+twoUnits = record { count = 2; widths = 2 ∷ 1 ∷ 0 ∷ 0 ∷ 0 ∷ 0 ∷ 0 ∷ 0 ∷ []; page = 1; grouped = false; rights = serviceRights }
 
 -- the image at the first `(show)`
 abbrev afterCut : List ℕ
@@ -24,7 +25,7 @@ shown = refl
 
 -- `(plan (2 1) (page 4))`: filler behind each marker and each copy, all of it other than zero, and none of it shown
 abbrev byPages : Plan
-byPages = record { count = 2; widths = 2 ∷ 1 ∷ 0 ∷ 0 ∷ 0 ∷ 0 ∷ 0 ∷ 0 ∷ []; page = 4; grouped = false }
+byPages = record { count = 2; widths = 2 ∷ 1 ∷ 0 ∷ 0 ∷ 0 ∷ 0 ∷ 0 ∷ 0 ∷ []; page = 4; grouped = false; rights = serviceRights }
 
 abbrev filled : List ℕ
 filled =

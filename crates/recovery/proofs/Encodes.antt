@@ -6,6 +6,7 @@ use native.Mathlib.Omega.{arith}
 use native.Mathlib.Nat.{div-add-mod'}
 use lib.ListN.{length, length-append}
 use lib.Seq.{take-all, take-append-seam, drop-append-seam}
+use Rattle.model.specs.declared.Role.the-variants.{Rider, Gym, Service}
 use Rattle.model.specs.Ledger.{Call, begin, ride, group, step, cut, wake}
 use Rattle.model.specs.Turns.{inBytes}
 use Rattle.model.proofs.TurnLaws.{bytes-size, bytes-amount}
@@ -42,7 +43,9 @@ decodes : (cs : List Call) → Handed cs → callsOf (bytesOf cs) ≡ cs
 unfolding bytesOf callsFrom callOf
 decodes [] h = refl
 decodes (step ∷ cs) h = ahead step cs (decoded 0 0 []) (decodes cs h)
-decodes (begin u payload ∷ cs) h = ahead (begin u payload) cs (decoded 1 u payload) (decodes cs (h .3))
+decodes (begin Service u payload ∷ cs) h = ahead (begin Service u payload) cs (decoded 1 u payload) (decodes cs (h .3))
+decodes (begin Rider u payload ∷ cs) h = ahead (begin Rider u payload) cs (decoded 8 u payload) (decodes cs (h .3))
+decodes (begin Gym u payload ∷ cs) h = ahead (begin Gym u payload) cs (decoded 9 u payload) (decodes cs (h .3))
 decodes (cut bytes ∷ cs) h = ahead (cut bytes) cs (decoded 2 0 bytes) (decodes cs (h .2))
 decodes (wake ∷ cs) h = ahead wake cs (decoded 3 0 []) (decodes cs h)
 decodes (group g ∷ cs) h = ahead (group g) cs (decoded 5 0 g) (decodes cs (h .2))
@@ -66,7 +69,9 @@ in-bytes : (cs : List Call) → Handed cs → Bytes (bytesOf cs)
 unfolding bytesOf
 in-bytes [] h = tt
 in-bytes (step ∷ cs) h = framed 0 0 [] (bytesOf cs) (omega arith) (omega arith) (omega arith) tt (in-bytes cs h)
-in-bytes (begin u payload ∷ cs) h = framed 1 u payload (bytesOf cs) (omega arith) (h .0) (h .1) (h .2) (in-bytes cs (h .3))
+in-bytes (begin Service u payload ∷ cs) h = framed 1 u payload (bytesOf cs) (omega arith) (h .0) (h .1) (h .2) (in-bytes cs (h .3))
+in-bytes (begin Rider u payload ∷ cs) h = framed 8 u payload (bytesOf cs) (omega arith) (h .0) (h .1) (h .2) (in-bytes cs (h .3))
+in-bytes (begin Gym u payload ∷ cs) h = framed 9 u payload (bytesOf cs) (omega arith) (h .0) (h .1) (h .2) (in-bytes cs (h .3))
 in-bytes (cut bytes ∷ cs) h = framed 2 0 bytes (bytesOf cs) (omega arith) (omega arith) (h .0) (h .1) (in-bytes cs (h .2))
 in-bytes (group g ∷ cs) h = framed 5 0 g (bytesOf cs) (omega arith) (omega arith) (h .0) (h .1) (in-bytes cs (h .2))
 in-bytes (ride turns ∷ cs) h =

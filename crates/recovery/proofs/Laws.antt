@@ -18,7 +18,7 @@ use Rattle.recovery.specs.Encoding.{two, callOf, unitIn, sizeIn, callsFr
 -- ---- playing
 pub same-call : (c : Call) (n : ℕ) (d : Device) (image : List ℕ) → call c (outcome n d image) ≡ call c (outcome 0 d image)
 unfolding call
-same-call (begin u payload) n d image = refl
+same-call (begin role u payload) n d image = refl
 same-call (ride turns) n d image = refl
 same-call (group g) n d image = refl
 same-call step n d image = refl

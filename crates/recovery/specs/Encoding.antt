@@ -1,5 +1,5 @@
 -- Lists of calls as bytes. A call is
---   a byte for its kind: 1 begin, 2 cut, 3 wake, 4 ride, 5 group, any other step;
+--   a byte for its kind: 1 begin by service, 2 cut, 3 wake, 4 ride, 5 group, 8 begin by a rider, 9 begin by the gym, any other step;
 --   two bytes, the high one first: the unit, which only a begin looks at;
 --   two bytes, the high one first: how many bytes of its own follow;
 --   and these: a begin's payload; the bytes of a cut or of a group; a ride's turns are the first eight, lowest byte first, or 0 if there
@@ -11,6 +11,7 @@ use mathlib.Core.List.{List, [], _∷_, _++_}
 use mathlib.Core.Bool.{cond}
 use lib.Dec.{eqb, ltb, leb}
 use lib.ListN.{length, getD, take, drop}
+use Rattle.model.specs.declared.Role.the-variants.{Rider, Gym, Service}
 use Rattle.model.specs.Turns.{amount, inBytes}
 use Rattle.model.specs.Ledger.{Call, begin, ride, group, step, cut, wake}
 
@@ -22,8 +23,11 @@ turnsIn own = cond (ltb (length own) 8) 0 (amount (take 8 own))
 
 unfoldable pub callOf : ℕ → ℕ → List ℕ → Call
 callOf kind unit own =
-    cond (eqb kind 1) (begin unit own)
-    (cond (eqb kind 2) (cut own) (cond (eqb kind 3) wake (cond (eqb kind 4) (ride (turnsIn own)) (cond (eqb kind 5) (group own) step))))
+    cond (eqb kind 1) (begin Service unit own)
+    (cond (eqb kind 2) (cut own)
+    (cond (eqb kind 3) wake
+    (cond (eqb kind 4) (ride (turnsIn own))
+    (cond (eqb kind 5) (group own) (cond (eqb kind 8) (begin Rider unit own) (cond (eqb kind 9) (begin Gym unit own) step))))))
 
 -- the unit and the size, in what follows the kind
 abbrev pub unitIn : List ℕ → ℕ
@@ -50,7 +54,9 @@ encoded kind unit own = kind ∷ unit / 256 ∷ unit % 256 ∷ length own / 256 
 
 abbrev pub bytesOfCall : Call → List ℕ
 bytesOfCall step = encoded 0 0 []
-bytesOfCall (begin u payload) = encoded 1 u payload
+bytesOfCall (begin Service u payload) = encoded 1 u payload
+bytesOfCall (begin Rider u payload) = encoded 8 u payload
+bytesOfCall (begin Gym u payload) = encoded 9 u payload
 bytesOfCall (cut bytes) = encoded 2 0 bytes
 bytesOfCall wake = encoded 3 0 []
 bytesOfCall (ride turns) = encoded 4 0 (inBytes 8 turns)
@@ -67,7 +73,7 @@ Bytes (x ∷ xs) = (x < 256) × Bytes xs
 -- what the library's calls can be handed: a unit of 16 bits, bytes, less than 65,536 of them, and turns of 64 bits
 abbrev pub Handed : List Call → Type 0
 Handed [] = Unit
-Handed (begin u payload ∷ cs) = (u < 65536) × (length payload < 65536) × Bytes payload × Handed cs
+Handed (begin role u payload ∷ cs) = (u < 65536) × (length payload < 65536) × Bytes payload × Handed cs
 Handed (cut bytes ∷ cs) = (length bytes < 65536) × Bytes bytes × Handed cs
 Handed (group g ∷ cs) = (length g < 65536) × Bytes g × Handed cs
 Handed (ride turns ∷ cs) = (turns < 18446744073709551616) × Handed cs

@@ -19,13 +19,17 @@ use lookup::device_number;
 use marker::Marker;
 use model::Phase;
 use model::Plan;
+use model::Role;
 use model::refusals::BAD_MARKER;
 use model::refusals::FOREIGN_MARKER;
+use model::refusals::NO_RIGHT;
 use model::refusals::NO_UNIT;
 use model::refusals::UNIT_TAKEN;
 use model::refusals::WRONG_PHASE;
 use model::refusals::WRONG_SIZE;
 use model::refusals::WRONG_TEAR;
+use rights::may_see;
+use rights::may_write;
 use search::any_foreign;
 
 // Wrong phase for format and wake.
@@ -137,16 +141,17 @@ pub fn marker_number(plan: Plan, image: &[u8], unit: u16) -> u16
     0
 }
 
-// Refusals 1 to 6, 20, 7 and 8 of begin with a payload of `size` bytes, in this order; `held` is the payload that the device has.
+// Refusals 1 to 6, 20, 22, 7 and 8 of begin with a payload of `size` bytes, in this order; `held` is the payload that the device has.
 pub fn begin_number(
     plan: Plan,
     held: &[u8; 256],
     phase: Phase,
     image: &[u8],
+    role: Role,
     unit: u16,
     size: usize,
 ) -> u16
-    ensures { λ r. ⌜ r ≡ beginNumber (viewOf plan (now (held .entry)) phase (now (image .entry))) unit size ⌝ }
+    ensures { λ r. ⌜ r ≡ beginNumber (viewOf plan (now (held .entry)) phase (now (image .entry))) role unit size ⌝ }
 {
     let number = ready_number(plan, held, phase, image.len());
     if number != 0 {
@@ -158,15 +163,25 @@ pub fn begin_number(
     if is_record(plan, unit) {
         return UNIT_TAKEN;
     }
+    if !may_write(plan.rights, role, unit) {
+        return NO_RIGHT;
+    }
     if size != (width_of(plan, unit) as usize) {
         return WRONG_SIZE;
     }
     marker_number(plan, image, unit)
 }
 
-// Refusals 1 to 6 and 8 of read.
-pub fn read_number(plan: Plan, payload: &[u8; 256], phase: Phase, image: &[u8], unit: u16) -> u16
-    ensures { λ r. ⌜ r ≡ readNumber (viewOf plan (now (payload .entry)) phase (now (image .entry))) unit ⌝ }
+// Refusals 1 to 6, 22 and 8 of read, in this order.
+pub fn read_number(
+    plan: Plan,
+    payload: &[u8; 256],
+    phase: Phase,
+    image: &[u8],
+    role: Role,
+    unit: u16,
+) -> u16
+    ensures { λ r. ⌜ r ≡ readNumber (viewOf plan (now (payload .entry)) phase (now (image .entry))) role unit ⌝ }
 {
     let number = ready_number(plan, payload, phase, image.len());
     if number != 0 {
@@ -174,6 +189,9 @@ pub fn read_number(plan: Plan, payload: &[u8; 256], phase: Phase, image: &[u8], 
     }
     if unit >= plan.count {
         return NO_UNIT;
+    }
+    if !may_see(plan.rights, role, unit) {
+        return NO_RIGHT;
     }
     marker_number(plan, image, unit)
 }

@@ -10,6 +10,7 @@ ghost use Rattle.recovery.specs.Encoding.{two, turnsIn, callOf, callsOf};
 ghost use Rattle.recovery.specs.Outage.{Fits, closed, Restored};
 use amount::amount_of;
 use model::Plan;
+use model::Role;
 use store::Answer;
 use store::Device;
 
@@ -43,7 +44,7 @@ pub fn call(device: Device, image: &mut [u8], kind: u8, unit: u16, own: &[u8]) -
         (call (callOf kind unit (now (own .entry))) (outcome 0 (modelled device) (now (image .entry)))) ⌝ }
 {
     if kind == 1 {
-        return device.begin(image, unit, own);
+        return device.begin(image, Role::Service, unit, own);
     }
     if kind == 2 {
         return device.cut(image, own);
@@ -56,6 +57,12 @@ pub fn call(device: Device, image: &mut [u8], kind: u8, unit: u16, own: &[u8]) -
     }
     if kind == 5 {
         return device.group(image, own);
+    }
+    if kind == 8 {
+        return device.begin(image, Role::Rider, unit, own);
+    }
+    if kind == 9 {
+        return device.begin(image, Role::Gym, unit, own);
     }
     device.step(image)
 }

@@ -8,6 +8,7 @@ use lib.Dec.{eqb, ltb}
 use lib.ListN.{length, getD, take, drop}
 use borrow.Author.Tests.{eqb-true, eq-eqb, ne-eqb, lt-ltb, le-ltb, not-false}
 use Rattle.model.specs.declared.Plan.{Plan}
+use Rattle.model.specs.declared.Role.{Role}
 use Rattle.model.specs.declared.Phase.{Phase}
 use Rattle.model.specs.Marker.{OK}
 use Rattle.model.specs.Layout.{copyA, marker, width, base, get, copyOf}
@@ -92,31 +93,31 @@ module _ (p : Plan) (payload : List ℕ) (phase : Phase) (image : List ℕ) (tur
         fits h = sym (from-15 ∙ first-skip 15 _ [] (le-ltb 18446744073709551615 (total + turns) h) ∙ first-none)
 
 -- ---- a total: k is read's number
-module _ (p : Plan) (payload : List ℕ) (phase : Phase) (image : List ℕ) (u k : ℕ) (e : k ≡ readNumber (viewOf p payload phase image) u) where
+module _ (p : Plan) (payload : List ℕ) (phase : Phase) (image : List ℕ) (role : Role) (u k : ℕ) (e : k ≡ readNumber (viewOf p payload phase image) role u) where
   abbrev wide : List Refusal
   wide = 16 when not (eqb (width p u) 8) ∷ []
 
-  pub total-early : ¬ (k ≡ 0) → k ≡ totalNumber (viewOf p payload phase image) u
+  pub total-early : ¬ (k ≡ 0) → k ≡ totalNumber (viewOf p payload phase image) role u
   unfolding readNumber totalNumber
   total-early h = e ∙ sym (first-refused _ wide (λ q. h (e ∙ q)))
 
   module _ (z : k ≡ 0) where
-    from-width : totalNumber (viewOf p payload phase image) u ≡ first wide
+    from-width : totalNumber (viewOf p payload phase image) role u ≡ first wide
     unfolding readNumber totalNumber
     from-width = first-passed _ wide refl (sym e ∙ z)
 
-    pub total-other : ¬ (width p u ≡ 8) → 16 ≡ totalNumber (viewOf p payload phase image) u
+    pub total-other : ¬ (width p u ≡ 8) → 16 ≡ totalNumber (viewOf p payload phase image) role u
     total-other h = sym (from-width ∙ first-stop 16 _ [] (ap not (ne-eqb (width p u) 8 h)))
 
-    pub total-fine : width p u ≡ 8 → 0 ≡ totalNumber (viewOf p payload phase image) u
+    pub total-fine : width p u ≡ 8 → 0 ≡ totalNumber (viewOf p payload phase image) role u
     total-fine w = sym (from-width ∙ first-skip 16 _ [] (ap not (eq-eqb (width p u) 8 w)) ∙ first-none)
 
 -- what a total's 0 says
-pub total-says : (p : Plan) (payload : List ℕ) (phase : Phase) (image : List ℕ) (u : ℕ) → totalNumber (viewOf p payload phase image) u ≡ 0
-    → (readNumber (viewOf p payload phase image) u ≡ 0) × (width p u ≡ 8)
+pub total-says : (p : Plan) (payload : List ℕ) (phase : Phase) (image : List ℕ) (role : Role) (u : ℕ) → totalNumber (viewOf p payload phase image) role u ≡ 0
+    → (readNumber (viewOf p payload phase image) role u ≡ 0) × (width p u ≡ 8)
 unfolding readNumber totalNumber
-total-says p payload phase image u e =
+total-says p payload phase image role u e =
     let wide : List Refusal = 16 when not (eqb (width p u) 8) ∷ [] in
-    let read : readNumber (viewOf p payload phase image) u ≡ 0 = first-front _ wide e in
+    let read : readNumber (viewOf p payload phase image) role u ≡ 0 = first-front _ wide e in
     let h = first-past 15 (not (eqb (width p u) 8)) [] (sym (first-passed _ wide refl read) ∙ e) in
     (read, eqb-true (width p u) 8 (not-false _ (h .0)))

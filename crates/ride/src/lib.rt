@@ -14,6 +14,7 @@ use layout::width_of;
 use marker::Marker;
 use model::Phase;
 use model::Plan;
+use model::Role;
 use model::refusals::BAD_MARKER;
 use model::refusals::NO_TOTAL;
 use model::refusals::SUM_TOO_LARGE;
@@ -61,10 +62,17 @@ pub fn ridden(page: u16, image: &[u8], turns: u64) -> [u8; 256]
 }
 
 // Refusals of a unit's total: read's, and then 16.
-pub fn total_number(plan: Plan, payload: &[u8; 256], phase: Phase, image: &[u8], unit: u16) -> u16
-    ensures { λ r. ⌜ r ≡ totalNumber (viewOf plan (now (payload .entry)) phase (now (image .entry))) unit ⌝ }
+pub fn total_number(
+    plan: Plan,
+    payload: &[u8; 256],
+    phase: Phase,
+    image: &[u8],
+    role: Role,
+    unit: u16,
+) -> u16
+    ensures { λ r. ⌜ r ≡ totalNumber (viewOf plan (now (payload .entry)) phase (now (image .entry))) role unit ⌝ }
 {
-    let number = read_number(plan, payload, phase, image, unit);
+    let number = read_number(plan, payload, phase, image, role, unit);
     if number != 0 {
         return number;
     }

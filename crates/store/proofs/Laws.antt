@@ -11,6 +11,7 @@ use Rattle.store.specs.declared.Device.{Device}
 use Rattle.store.specs.declared.Answer.{Answer}
 use Rattle.store.specs.Modelled.{modelled, blanked, Gives, Starts}
 use Rattle.model.specs.declared.Plan.{Plan}
+use Rattle.model.specs.declared.Role.{Role}
 use Rattle.model.specs.declared.Inspection.the-variants.{Refused}
 use Rattle.model.specs.declared.Phase.{Phase}
 use Rattle.model.specs.declared.Phase.the-variants.{Cold, Writing, Grouping}
@@ -42,14 +43,14 @@ accepted r left d image k (suc n) o e z g = absurd (omega arith)
 
 -- ---- begin and cut, over variables: their definitions are long
 module _ (d : Device) (image : List ℕ) (k : ℕ) where
-  module _ (u : ℕ) (payload : List ℕ) (e : k ≡ beginNumber (viewOf (d .plan) (d .payload) (d .phase) image) u (length payload)) where
-    pub begin-refused : ¬ (k ≡ 0) → Gives (record { number = k; device = d }) image (begin (modelled d) image u payload)
+  module _ (role : Role) (u : ℕ) (payload : List ℕ) (e : k ≡ beginNumber (viewOf (d .plan) (d .payload) (d .phase) image) role u (length payload)) where
+    pub begin-refused : ¬ (k ≡ 0) → Gives (record { number = k; device = d }) image (begin (modelled d) image role u payload)
     unfolding begin
     begin-refused h = refused d image k _ _ e h
 
     pub begin-accepted : k ≡ 0 → (xs : List ℕ) → xs ≡ padded payload
         → Gives (record { number = 0; device = record { plan = d .plan; payload = xs; phase = Writing u 0; stores = d .stores } }) image
-        (begin (modelled d) image u payload)
+        (begin (modelled d) image role u payload)
     unfolding begin
     begin-accepted z xs is =
         accepted _ image d image k _ _ e z
@@ -125,10 +126,10 @@ pub record Looked (p : Plan) (u n : ℕ) (q : Span) : Type 0 where
 -- ---- what a device and its image have
 module _ (p : Plan) (held : List ℕ) (phase : Phase) (image : List ℕ) where
   -- the unit of an accepted read, looked up
-  pub read-looks : (k u : ℕ) → k ≡ readNumber (viewOf p held phase image) u → k ≡ 0 → (q : Span) → Spans p u (length image) q
+  pub read-looks : (k : ℕ) (role : Role) (u : ℕ) → k ≡ readNumber (viewOf p held phase image) role u → k ≡ 0 → (q : Span) → Spans p u (length image) q
       → Looked p u (length image) q
   unfolding readNumber
-  read-looks k u e z q s =
+  read-looks k role u e z q s =
       let n : first (deviceRow (viewOf p held phase image) ++ _) ≡ 0 = sym e ∙ z in
       let h₅ = first-past 4 (not (isReady (jobOf phase))) _ (past (viewOf p held phase image) _ n .more) in
       let h = leb-false (p .count) u (first-past 5 (leb (p .count) u) _ (h₅ .1) .0) in
@@ -140,11 +141,11 @@ module _ (p : Plan) (held : List ℕ) (phase : Phase) (image : List ℕ) where
         inside = span-inside p (r .ok) u h (length image) q (r .long) is;
       }
 
-  pub begin-narrow : (k u : ℕ) (payload : List ℕ) → k ≡ beginNumber (viewOf p held phase image) u (length payload) → k ≡ 0
+  pub begin-narrow : (k : ℕ) (role : Role) (u : ℕ) (payload : List ℕ) → k ≡ beginNumber (viewOf p held phase image) role u (length payload) → k ≡ 0
       → length payload ≤ 256
   unfolding beginNumber
-  begin-narrow k u payload e z =
-      let began = begin-says (viewOf p held phase image) u (length payload) (sym e ∙ z) in
+  begin-narrow k role u payload e z =
+      let began = begin-says (viewOf p held phase image) role u (length payload) (sym e ∙ z) in
       let r = room p held phase image (live p held phase image k _ e z) in
       omega (arith, began .size, width-bounds p (r .ok) u (began .unit) .1)
 

@@ -8,6 +8,7 @@ use borrow.Author.Tests.{ltb-false}
 use Rattle.store.specs.declared.Device.{Device}
 use Rattle.store.specs.Modelled.{modelled, Gives, Shows}
 use Rattle.model.specs.declared.Phase.the-variants.{Writing}
+use Rattle.model.specs.declared.Role.{Role}
 use Rattle.model.specs.Layout.{copyA, width, copyOf}
 use Rattle.model.specs.Turns.{amount, plus}
 use Rattle.model.specs.Refusals.{readNumber, rideNumber, totalNumber}
@@ -57,23 +58,23 @@ module _ (d : Device) (image : List ℕ) (turns k : ℕ)
         })
 
 -- ---- a total: k is the code's number, xs the part that it read
-module _ (d : Device) (image : List ℕ) (u k : ℕ) (e : k ≡ totalNumber (viewOf (d .plan) (d .payload) (d .phase) image) u) where
-  pub total-refused : ¬ (k ≡ 0) → Shows (record { amount = 0; number = k }) (totalOf (modelled d) image u)
+module _ (d : Device) (image : List ℕ) (role : Role) (u k : ℕ) (e : k ≡ totalNumber (viewOf (d .plan) (d .payload) (d .phase) image) role u) where
+  pub total-refused : ¬ (k ≡ 0) → Shows (record { amount = 0; number = k }) (totalOf (modelled d) image role u)
   unfolding totalOf
-  total-refused h = go (totalNumber (viewOf (d .plan) (d .payload) (d .phase) image) u) e
+  total-refused h = go (totalNumber (viewOf (d .plan) (d .payload) (d .phase) image) role u) e
     where
       go : (n : ℕ) → k ≡ n → Shows (record { amount = 0; number = k }) (totalUnlessRefused n (amount (copyOf (d .plan) image u copyA)))
       go zero q = absurd (h q)
       go (suc n) q = record { number = q; amount = refl }
 
-  module _ (z : k ≡ 0) (xs : List ℕ) (is : xs ≡ read (modelled d) image u) where
-    says : (readNumber (viewOf (d .plan) (d .payload) (d .phase) image) u ≡ 0) × (width (d .plan) u ≡ 8)
-    says = total-says (d .plan) (d .payload) (d .phase) image u (sym e ∙ z)
+  module _ (z : k ≡ 0) (xs : List ℕ) (is : xs ≡ read (modelled d) image role u) where
+    says : (readNumber (viewOf (d .plan) (d .payload) (d .phase) image) role u ≡ 0) × (width (d .plan) u ≡ 8)
+    says = total-says (d .plan) (d .payload) (d .phase) image role u (sym e ∙ z)
 
     pub total-size : length xs ≡ 8
-    total-size = ap length is ∙ every-call (modelled d) image .read u .size (says .0) ∙ says .1
+    total-size = ap length is ∙ every-call (modelled d) image .read role u .size (says .0) ∙ says .1
 
-    pub total-shown : (n : ℕ) → n ≡ amount xs → Shows (record { amount = n; number = 0 }) (totalOf (modelled d) image u)
+    pub total-shown : (n : ℕ) → n ≡ amount xs → Shows (record { amount = n; number = 0 }) (totalOf (modelled d) image role u)
     unfolding totalOf read
     total-shown n h =
         let copy : xs ≡ copyOf (d .plan) image u copyA = is ∙ sym (part-shown 0 _ _ (sym (says .0)) refl) in

@@ -18,8 +18,11 @@ use lookup::plan_number;
 use lookup::span_of;
 use mirror::tear_on;
 use model::Inspection;
+use model::NOTHING;
 use model::Phase;
 use model::Plan;
+use model::Rights;
+use model::Role;
 use refusal::begin_number;
 use refusal::cut_number;
 use refusal::format_number;
@@ -67,7 +70,7 @@ fn blank(plan: Plan, phase: Phase, stores: u32) -> Device
 
 impl Device {
     // A device for a plan: Cold, with a zero payload and no store counted. Refused (1, 2, 17): the device that is all zeros but for a
-    // page of 1.
+    // page of 1, and grants nothing.
     pub fn start(plan: Plan) -> Answer
         ensures { λ r. ⌜ Starts r (start plan) ⌝ }
     {
@@ -78,6 +81,11 @@ impl Device {
                 widths: [0u16; 8],
                 page: 1,
                 grouped: false,
+                rights: Rights {
+                    rider: [NOTHING; 8],
+                    gym: [NOTHING; 8],
+                    service: [NOTHING; 8],
+                },
             };
             return Answer {
                 number: number,
@@ -111,15 +119,16 @@ impl Device {
         }
     }
 
-    // Takes the payload of a write, whose stores the steps make. Refused: 1 to 6, 20 for the group record, 7 and 8, in this order.
-    pub fn begin(self, image: &[u8], unit: u16, payload: &[u8]) -> Answer
-        ensures { λ r. ⌜ Gives r (now (image .entry)) (begin (modelled self) (now (image .entry)) unit (now (payload .entry))) ⌝ }
+    // Takes the payload of a write, whose stores the steps make. Refused: 1 to 6, 20 for the group record, 22 where the role may not
+    // write the unit, 7 and 8, in this order.
+    pub fn begin(self, image: &[u8], role: Role, unit: u16, payload: &[u8]) -> Answer
+        ensures { λ r. ⌜ Gives r (now (image .entry)) (begin (modelled self) (now (image .entry)) role unit (now (payload .entry))) ⌝ }
     {
         let plan = self.plan;
         let phase = self.phase;
         let stores = self.stores;
         let old = self.payload;
-        let number = begin_number(plan, &old, phase, image, unit, payload.len());
+        let number = begin_number(plan, &old, phase, image, role, unit, payload.len());
         if number != 0 {
             return Answer {
                 number: number,
@@ -301,24 +310,24 @@ impl Device {
         }
     }
 
-    // 0, or why read is refused: 1 to 6, or 8.
-    pub fn read_number(self, image: &[u8], unit: u16) -> u16
-        ensures { λ r. ⌜ r ≡ readNumber (view (modelled self) (now (image .entry))) unit ⌝ }
+    // 0, or why read is refused: 1 to 6, 22 where the role may not see the unit, or 8, in this order.
+    pub fn read_number(self, image: &[u8], role: Role, unit: u16) -> u16
+        ensures { λ r. ⌜ r ≡ readNumber (view (modelled self) (now (image .entry))) role unit ⌝ }
     {
         let plan = self.plan;
         let phase = self.phase;
         let payload = self.payload;
-        read_number(plan, &payload, phase, image, unit)
+        read_number(plan, &payload, phase, image, role, unit)
     }
 
     // Copy A of a unit, as a part of the image; an empty part when refused.
-    pub fn read(self, image: &[u8], unit: u16) -> &[u8]
-        ensures { λ r. ⌜ now r ≡ read (modelled self) (now (image .entry)) unit ⌝ }
+    pub fn read(self, image: &[u8], role: Role, unit: u16) -> &[u8]
+        ensures { λ r. ⌜ now r ≡ read (modelled self) (now (image .entry)) role unit ⌝ }
     {
         let plan = self.plan;
         let phase = self.phase;
         let payload = self.payload;
-        let number = read_number(plan, &payload, phase, image, unit);
+        let number = read_number(plan, &payload, phase, image, role, unit);
         if number != 0 {
             return &image[..0];
         }
@@ -329,20 +338,20 @@ impl Device {
     }
 
     // The total that a unit holds, taken from copy A. Refused: as read, and 16 where the unit isn't eight bytes wide.
-    pub fn total(self, image: &[u8], unit: u16) -> Total
-        ensures { λ r. ⌜ Shows r (totalOf (modelled self) (now (image .entry)) unit) ⌝ }
+    pub fn total(self, image: &[u8], role: Role, unit: u16) -> Total
+        ensures { λ r. ⌜ Shows r (totalOf (modelled self) (now (image .entry)) role unit) ⌝ }
     {
         let plan = self.plan;
         let phase = self.phase;
         let payload = self.payload;
-        let number = total_number(plan, &payload, phase, image, unit);
+        let number = total_number(plan, &payload, phase, image, role, unit);
         if number != 0 {
             return Total {
                 amount: 0,
                 number: number,
             };
         }
-        let amount = amount_of(self.read(image, unit));
+        let amount = amount_of(self.read(image, role, unit));
         Total {
             amount: amount,
             number: 0,

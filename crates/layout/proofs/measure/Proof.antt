@@ -10,6 +10,7 @@ use Prim.Native.Nat.{ℕ, _≤_, _<_, _-_, _*_, _+_}
 use lib.ListN.{getD}
 use Rattle.layout.proofs.Laws.{used, widths-more, widths-bad, inside-most, page-size, times-page, page-kept, page-lost, copied, copied-none, copied-more, base-copied, plan-one, plan-two, plan-seventeen, unmeasured}
 use Rattle.model.specs.declared.Plan.{Plan}
+use Rattle.model.specs.Rights.{noRights}
 use Rattle.model.specs.Layout.{wholePages}
 use Rattle.model.specs.Refusals.{badCount, badWidths}
 use Rattle.model.proofs.RefusalLaws.{PlanOk, start-fine}
@@ -17,7 +18,7 @@ use Rattle.layout.proofs.measure.Statement.{statement}
 use Rattle.layout.proofs.measure.Tie as tie
 
 abbrev the : ℕ → List ℕ → ℕ → Plan
-the count widths page = record { count = count; widths = widths; page = page; grouped = false }
+the count widths page = record { count = count; widths = widths; page = page; grouped = false; rights = noRights }
 
 abbrev Inv-loop : tie.InvT-loop
 Inv-loop unit count widths asked page copies₀ earlier₀ i₀ copies earlier i = (i ≤ count) × (count ≤ 8) × (badWidths widths i ≡ false)

@@ -62,7 +62,7 @@ play-requires c κs =
     (f .says, search needs, search needs)
 
 print-bad-requires-2 : tie.Need-print-bad-requires-2 Inv-loop μ-loop
-print-bad-requires-2 c κs = (c .before .before .before .before .before .before .play .ensures .fits, search needs)
+print-bad-requires-2 c κs = (c .before .before .before .before .before .before .play .ensures .fits, omega (arith, c .before .before .before .before .before .before .before .before .before .before .before .before .before .before .loop-test .taken, c .before .before .before .before .before .before .before .before .before .before .before .before .before .before .before .loop .inv .3, c .before .before .before .before .before .before .before .before .before .before .before .before .before .before .before .before .before .before .before .pre .1))
 
 same-length-3 : tie.Need-same-length-3 Inv-loop μ-loop
 same-length-3 c = search needs
@@ -76,7 +76,7 @@ returns-2 c = search needs
 add-at : tie.Need-add-at Inv-loop μ-loop
 add-at c =
     let f = read-found _ _ _ _ _ (sym (c .before .before .before .before .before .before .before .before .before .before .before .before .before .read-line .ensures) ∙ c .before .before .before .before .before .before .before .before .before .before .before .read .given .1) in
-    search needs
+    record { fits = omega (arith, f .inside, c .before .before .before .before .before .before .before .before .before .before .before .before .before .before .before .before .before .before .before .pre .1) }
 
 loop-less : tie.Need-loop-less Inv-loop μ-loop
 loop-less c =

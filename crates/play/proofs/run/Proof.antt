@@ -74,14 +74,17 @@ cast-t24 c =
     let few = plan-count _ _ _ _ (f .says ∙ ap Is (c .before .before .before .form .given .1)) in
     search needs
 
+service-rights-requires : tie.Need-service-rights-requires
+service-rights-requires c κs = search needs
+
 add-play-plan : tie.Need-add-play-plan
 add-play-plan c =
-    let f = read-found _ _ _ _ _ (sym (c .before .before .before .before .before .before .before .before .read-line .ensures) ∙ c .before .before .before .before .before .before .read .given .1) in
+    let f = read-found _ _ _ _ _ (sym (c .before .before .before .before .before .before .before .before .before .read-line .ensures) ∙ c .before .before .before .before .before .before .before .read .given .1) in
     search needs
 
 play-plan-requires : tie.Need-play-plan-requires
 play-plan-requires c κs =
-    let f = read-found _ _ _ _ _ (sym (c .before .before .before .before .before .before .before .before .before .before .read-line .ensures) ∙ c .before .before .before .before .before .before .before .before .read .given .1) in
+    let f = read-found _ _ _ _ _ (sym (c .before .before .before .before .before .before .before .before .before .before .before .read-line .ensures) ∙ c .before .before .before .before .before .before .before .before .before .read .given .1) in
     search needs
 
 same-length-4 : tie.Need-same-length-4
@@ -116,6 +119,7 @@ run-spec =
     part-widths-at-end
     widths-at-requires
     cast-t24
+    service-rights-requires
     add-play-plan
     play-plan-requires
     same-length-4

@@ -5,6 +5,7 @@ use Prim.Native.Nat.{ℕ}
 use lib.Seq.{length-sets}
 use denote.Ref.{now}
 use borrow.Author.Needs.{needs}
+use Rattle.model.specs.declared.Role.the-variants.{Service}
 use Rattle.model.specs.Calls.{begin}
 use Rattle.store.specs.Modelled.{modelled}
 use Rattle.play.proofs.Listed.{front-length, with-listed}
@@ -29,7 +30,7 @@ begin-requires c κs = search needs
 returns : tie.Need-returns
 returns c =
     let a = c .before .before .before .before .before .before .before .args in
-    with-listed (λ (t : List ℕ). begin (modelled (a .device)) (now (a .image)) (a .unit) t) (now (a .line)) _ _ (a .at) (a .count)
+    with-listed (λ (t : List ℕ). begin (modelled (a .device)) (now (a .image)) Service (a .unit) t) (now (a .line)) _ _ (a .at) (a .count)
     (c .before .before .before .bytes-into .ensures) (omega arith) (c .begin .ensures)
 
 pub write-spec : {M : Type 1} → statement M

@@ -13,6 +13,11 @@ use Rattle.refusal.proofs.Laws.{phase-refused, phase-passed, live}
 use borrow.Author.Needs.{needs}
 use Rattle.refusal.proofs.begin_number.Statement.{statement}
 use Rattle.refusal.proofs.begin_number.Tie as tie
+use Rattle.group.proofs.is_record.Reads as is-record-reads
+use Rattle.layout.proofs.width_of.Reads as width-of-reads
+use Rattle.refusal.proofs.marker_number.Reads as marker-number-reads
+use Rattle.refusal.proofs.ready_number.Reads as ready-number-reads
+use Rattle.rights.proofs.may_write.Reads as may-write-reads
 
 ready-number-requires : tie.Need-ready-number-requires
 ready-number-requires c κs = search needs
@@ -38,11 +43,8 @@ returns-3 c = let a = c .before .before .before .before .before .before .before 
     ∙ first-skip 6 _ _ (lt-leb (a .plan .count) (a .unit) (omega (arith, c .before .before .if2 .left)))
     ∙ first-stop 20 _ _ (sym (c .before .is-record .ensures) ∙ c .if3 .taken))
 
-width-of-requires : tie.Need-width-of-requires
-width-of-requires c κs = search needs
-
-cast-if4 : tie.Need-cast-if4
-cast-if4 c = search needs
+may-write-requires : tie.Need-may-write-requires
+may-write-requires c κs = search needs
 
 returns-4 : tie.Need-returns-4
 unfolding beginNumber
@@ -50,20 +52,36 @@ returns-4 c = let a = c .before .before .before .before .before .before .before 
     sym (phase-passed (a .plan) (now (a .held)) (a .phase) (length (now (a .image))) _ _ (c .before .before .before .before .before .before .before .ready-number .ensures) refl (c .before .before .before .before .before .before .if1 .left) _
     ∙ first-skip 6 _ _ (lt-leb (a .plan .count) (a .unit) (omega (arith, c .before .before .before .before .if2 .left)))
     ∙ first-skip 20 _ _ (sym (c .before .before .before .is-record .ensures) ∙ c .before .before .if3 .left)
-    ∙ first-stop 7 _ _ (ap not (ne-eqb (a .size) (width (a .plan) (a .unit)) (λ q. absurd (omega (arith, c .if4 .taken, c .before .width-of .ensures, q))))))
+    ∙ first-stop 22 _ _ (ap not (sym (c .before .may-write .ensures)) ∙ c .if4 .taken))
 
-marker-number-requires : tie.Need-marker-number-requires
-marker-number-requires c κs = let a = c .before .before .before .before .before .before .before .before .before .args in
-    let r = room (a .plan) (now (a .held)) (a .phase) (now (a .image)) (live (a .plan) (now (a .held)) (a .phase) (now (a .image)) _ _ (c .before .before .before .before .before .before .before .ready-number .ensures) (c .before .before .before .before .before .before .if1 .left)) in
-    (r .ok, r .long, omega (arith, c .before .before .before .before .if2 .left))
+width-of-requires : tie.Need-width-of-requires
+width-of-requires c κs = search needs
+
+cast-if5 : tie.Need-cast-if5
+cast-if5 c = search needs
 
 returns-5 : tie.Need-returns-5
 unfolding beginNumber
-returns-5 c = let a = c .before .before .before .before .before .before .before .before .before .before .args in
-    sym (phase-passed (a .plan) (now (a .held)) (a .phase) (length (now (a .image))) _ _ (c .before .before .before .before .before .before .before .before .ready-number .ensures) refl (c .before .before .before .before .before .before .before .if1 .left) _
-    ∙ first-skip 6 _ _ (lt-leb (a .plan .count) (a .unit) (omega (arith, c .before .before .before .before .before .if2 .left)))
-    ∙ first-skip 20 _ _ (sym (c .before .before .before .before .is-record .ensures) ∙ c .before .before .before .if3 .left)
-    ∙ first-skip 7 _ _ (ap not (eq-eqb (a .size) (width (a .plan) (a .unit)) (omega (arith, c .before .if4 .left, c .before .before .width-of .ensures))))
+returns-5 c = let a = c .before .before .before .before .before .before .before .before .before .before .before .args in
+    sym (phase-passed (a .plan) (now (a .held)) (a .phase) (length (now (a .image))) _ _ (c .before .before .before .before .before .before .before .before .before .ready-number .ensures) refl (c .before .before .before .before .before .before .before .before .if1 .left) _
+    ∙ first-skip 6 _ _ (lt-leb (a .plan .count) (a .unit) (omega (arith, c .before .before .before .before .before .before .if2 .left)))
+    ∙ first-skip 20 _ _ (sym (c .before .before .before .before .before .is-record .ensures) ∙ c .before .before .before .before .if3 .left)
+    ∙ first-skip 22 _ _ (ap not (sym (c .before .before .before .may-write .ensures)) ∙ c .before .before .if4 .left)
+    ∙ first-stop 7 _ _ (ap not (ne-eqb (a .size) (width (a .plan) (a .unit)) (λ q. absurd (omega (arith, c .if5 .taken, c .before .width-of .ensures, q))))))
+
+marker-number-requires : tie.Need-marker-number-requires
+marker-number-requires c κs = let a = c .before .before .before .before .before .before .before .before .before .before .before .args in
+    let r = room (a .plan) (now (a .held)) (a .phase) (now (a .image)) (live (a .plan) (now (a .held)) (a .phase) (now (a .image)) _ _ (c .before .before .before .before .before .before .before .before .before .ready-number .ensures) (c .before .before .before .before .before .before .before .before .if1 .left)) in
+    (r .ok, r .long, omega (arith, c .before .before .before .before .before .before .if2 .left))
+
+returns-6 : tie.Need-returns-6
+unfolding beginNumber
+returns-6 c = let a = c .before .before .before .before .before .before .before .before .before .before .before .before .args in
+    sym (phase-passed (a .plan) (now (a .held)) (a .phase) (length (now (a .image))) _ _ (c .before .before .before .before .before .before .before .before .before .before .ready-number .ensures) refl (c .before .before .before .before .before .before .before .before .before .if1 .left) _
+    ∙ first-skip 6 _ _ (lt-leb (a .plan .count) (a .unit) (omega (arith, c .before .before .before .before .before .before .before .if2 .left)))
+    ∙ first-skip 20 _ _ (sym (c .before .before .before .before .before .before .is-record .ensures) ∙ c .before .before .before .before .before .if3 .left)
+    ∙ first-skip 22 _ _ (ap not (sym (c .before .before .before .before .may-write .ensures)) ∙ c .before .before .before .if4 .left)
+    ∙ first-skip 7 _ _ (ap not (eq-eqb (a .size) (width (a .plan) (a .unit)) (omega (arith, c .before .if5 .left, c .before .before .width-of .ensures))))
     ∙ sym (c .marker-number .ensures))
 
 pub begin-number-spec : {M : Type 1} → statement M
@@ -75,8 +93,10 @@ begin-number-spec =
     returns-2
     is-record-requires
     returns-3
-    width-of-requires
-    cast-if4
+    may-write-requires
     returns-4
+    width-of-requires
+    cast-if5
+    returns-5
     marker-number-requires
-    returns-5)
+    returns-6)

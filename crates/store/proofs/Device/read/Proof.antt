@@ -24,7 +24,7 @@ span-of-requires c κs = search needs
 
 add-start : tie.Need-add-start
 add-start c = let a = c .before .before .before .before .before .before .before .before .args in
-    let q = read-looks (a .self .plan) (a .self .payload) (a .self .phase) (now (a .image)) _ (a .unit) (c .before .before .before .read-number .ensures) (c .before .before .if1 .left) _ (c .before .span-of .ensures) in
+    let q = read-looks (a .self .plan) (a .self .payload) (a .self .phase) (now (a .image)) _ (a .role) (a .unit) (c .before .before .before .read-number .ensures) (c .before .before .if1 .left) _ (c .before .span-of .ensures) in
     record { fits = omega (arith, q .sound) }
 
 cast-start : tie.Need-cast-start
@@ -44,13 +44,13 @@ part-result-start c = search needs
 
 part-result-end : tie.Need-part-result-end
 part-result-end c = let a = c .before .before .before .before .before .before .before .before .before .args in
-    let q = read-looks (a .self .plan) (a .self .payload) (a .self .phase) (now (a .image)) _ (a .unit) (c .before .before .before .before .read-number .ensures) (c .before .before .before .if1 .left) _ (c .before .before .span-of .ensures) in
+    let q = read-looks (a .self .plan) (a .self .payload) (a .self .phase) (now (a .image)) _ (a .role) (a .unit) (c .before .before .before .before .read-number .ensures) (c .before .before .before .if1 .left) _ (c .before .before .span-of .ensures) in
     omega (arith, q .sound, q .inside)
 
 returns-2 : tie.Need-returns-2
 unfolding read
 returns-2 c = let a = c .before .before .before .before .before .before .before .before .before .before .args in
-    let q = read-looks (a .self .plan) (a .self .payload) (a .self .phase) (now (a .image)) _ (a .unit) (c .before .before .before .before .before .read-number .ensures) (c .before .before .before .before .if1 .left) _ (c .before .before .before .span-of .ensures) in
+    let q = read-looks (a .self .plan) (a .self .payload) (a .self .phase) (now (a .image)) _ (a .role) (a .unit) (c .before .before .before .before .before .read-number .ensures) (c .before .before .before .before .if1 .left) _ (c .before .before .before .span-of .ensures) in
     copy-part (a .self .plan) (now (a .image)) (a .unit) _ (q .is)
     ∙ part-shown _ _ _ (c .before .before .before .before .before .read-number .ensures) (c .before .before .before .before .if1 .left)
 

@@ -10,18 +10,18 @@ total-number-requires c κs = search needs
 
 returns : tie.Need-returns
 returns c = let a = c .before .before .before .before .before .before .args in
-    total-refused (a .self) (now (a .image)) (a .unit) _ (c .before .total-number .ensures) (c .if1 .taken)
+    total-refused (a .self) (now (a .image)) (a .role) (a .unit) _ (c .before .total-number .ensures) (c .if1 .taken)
 
 read-requires : tie.Need-read-requires
 read-requires c κs = search needs
 
 amount-of-requires : tie.Need-amount-of-requires
 amount-of-requires c κs = let a = c .before .before .before .before .before .before .before .args in
-    total-size (a .self) (now (a .image)) (a .unit) _ (c .before .before .total-number .ensures) (c .before .if1 .left) _ (c .read .ensures)
+    total-size (a .self) (now (a .image)) (a .role) (a .unit) _ (c .before .before .total-number .ensures) (c .before .if1 .left) _ (c .read .ensures)
 
 returns-2 : tie.Need-returns-2
 returns-2 c = let a = c .before .before .before .before .before .before .before .before .args in
-    total-shown (a .self) (now (a .image)) (a .unit) _ (c .before .before .before .total-number .ensures) (c .before .before .if1 .left) _ (c .before .read .ensures) _ (c .amount-of .ensures)
+    total-shown (a .self) (now (a .image)) (a .role) (a .unit) _ (c .before .before .before .total-number .ensures) (c .before .before .if1 .left) _ (c .before .read .ensures) _ (c .amount-of .ensures)
 
 pub total-spec : {M : Type 1} → statement M
 total-spec =

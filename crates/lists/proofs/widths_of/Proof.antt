@@ -1,8 +1,8 @@
--- `lists::plan_of` meets its contract. The loop's invariant: `at` is in the widths.
+-- `lists::widths_of` meets its contract. The loop's invariant: `at` is in the widths.
 use borrow.Author.Needs.{needs}
 use Prim.Native.Nat.{_-_, _≤_}
-use Rattle.lists.proofs.plan_of.Statement.{statement}
-use Rattle.lists.proofs.plan_of.Tie as tie
+use Rattle.lists.proofs.widths_of.Statement.{statement}
+use Rattle.lists.proofs.widths_of.Tie as tie
 
 abbrev Inv-loop : tie.InvT-loop
 Inv-loop head widths₀ at₀ widths at = at ≤ 8
@@ -37,26 +37,11 @@ loop-less c = search needs
 loop-again : tie.Need-loop-again Inv-loop μ-loop
 loop-again c = search needs
 
-shared-slice-read-wide : tie.Need-shared-slice-read-wide Inv-loop μ-loop
-shared-slice-read-wide c = search needs
-
-wide-requires : tie.Need-wide-requires Inv-loop μ-loop
-wide-requires c κs = search needs
-
-shared-slice-read-wide-2 : tie.Need-shared-slice-read-wide-2 Inv-loop μ-loop
-shared-slice-read-wide-2 c = search needs
-
-wide-requires-2 : tie.Need-wide-requires-2 Inv-loop μ-loop
-wide-requires-2 c κs = search needs
-
-shared-slice-read-t19 : tie.Need-shared-slice-read-t19 Inv-loop μ-loop
-shared-slice-read-t19 c = search needs
-
 returns : tie.Need-returns Inv-loop μ-loop
 returns c = search needs
 
-pub plan-of-spec : {M : Type 1} → statement M
-plan-of-spec =
+pub widths-of-spec : {M : Type 1} → statement M
+widths-of-spec =
     tie.close
     (tie.spec
     Inv-loop
@@ -70,9 +55,4 @@ plan-of-spec =
     add-at
     loop-less
     loop-again
-    shared-slice-read-wide
-    wide-requires
-    shared-slice-read-wide-2
-    wide-requires-2
-    shared-slice-read-t19
     returns)

@@ -1,0 +1,24 @@
+-- The definitions give every row of specs/CasesOfRoles.antt.
+use mathlib.Core.Path.{refl}
+use Rattle.model.specs.Rights.{right, mayWrite, maySee}
+use Rattle.model.specs.Layout.{wholePages, base, get, copyOf}
+use Rattle.model.specs.Refusals.{badCount, badWidths, badPage, badJob, first, readNumber, beginNumber, totalNumber}
+use Rattle.model.specs.Calls as calls
+use Rattle.model.specs.Ledger.{opening, markerOf, told, accepted, fed, tells}
+use Rattle.model.specs.CasesOfRoles.{EveryRight, EveryOrder, EveryTold, EveryShown}
+
+pub every-right : EveryRight
+unfolding wholePages base get badCount badWidths badPage badJob first readNumber beginNumber right mayWrite maySee
+every-right = refl
+
+pub every-order : EveryOrder
+unfolding wholePages base get badCount badWidths badPage badJob first readNumber totalNumber beginNumber right mayWrite maySee
+every-order = refl
+
+pub every-told : EveryTold
+unfolding badCount badWidths badPage badJob first beginNumber right mayWrite opening markerOf told accepted fed tells
+every-told = refl
+
+pub every-shown : EveryShown
+unfolding wholePages base get copyOf badCount badWidths badPage badJob first readNumber right mayWrite maySee calls.read
+every-shown = refl
