@@ -9,11 +9,45 @@ use Rattle.model.specs.CasesOfRoles.{EveryRight, EveryOrder, EveryTold, 
 
 pub every-right : EveryRight
 unfolding wholePages base get badCount badWidths badPage badJob first readNumber beginNumber right mayWrite maySee
-every-right = refl
+every-right =
+    record {
+      readRider = refl;
+      readGym = refl;
+      readService = refl;
+      tornRider = refl;
+      tornGym = refl;
+      tornService = refl;
+      beginRider = refl;
+      beginGym = refl;
+      beginService = refl;
+      beginTornRider = refl;
+      beginTornGym = refl;
+      beginTornService = refl;
+    }
 
 pub every-order : EveryOrder
 unfolding wholePages base get badCount badWidths badPage badJob first readNumber totalNumber beginNumber right mayWrite maySee
-every-order = refl
+every-order =
+    record {
+      readCold = refl;
+      readPast = refl;
+      readHidden = refl;
+      readTorn = refl;
+      readSeen = refl;
+      totalCold = refl;
+      totalPast = refl;
+      totalHidden = refl;
+      totalTorn = refl;
+      totalNarrow = refl;
+      beginCold = refl;
+      beginPast = refl;
+      beginRecord = refl;
+      beginRecordToo = refl;
+      beginBarred = refl;
+      beginSize = refl;
+      beginTorn = refl;
+      beginGood = refl;
+    }
 
 pub every-told : EveryTold
 unfolding badCount badWidths badPage badJob first beginNumber right mayWrite opening markerOf told accepted fed tells

@@ -21,14 +21,14 @@ use Rattle.model.specs.Marker.{A, direction, completed, tornBy, tornBits
 use Rattle.model.specs.Layout.{copyA, copyB, Cell, marker, byte, InUnit, width, base, total, place, pageAt, get, put, putPage, copyOf, formatted}
 use Rattle.model.specs.Groups.{Write, last, members, payloadOf, given, stands, writes, writeAt, isLastWrite}
 use Rattle.model.specs.Records.{Gives, WriteOf}
-use Rattle.model.specs.Rights.{right, noRights}
+use Rattle.model.specs.Rights.{noRights}
 use Rattle.model.specs.Refusals.{badWrite, groupNumber, writeTotal, cleanupTotal, badJob, isCold, isReady, first, startNumber, formatNumber, beginNumber, stepNumber, wakeNumber, cutNumber, readNumber, inspectNumber, rideNumber, totalNumber}
 use Rattle.model.specs.Turns.{amount, plus}
 use Rattle.model.specs.Stores.{Store, store, source, target, pageLeft, stored}
 use Rattle.model.specs.Calls.{Device, Outcome, outcome, view, unlessRefused, startAnswer, jobOf, next, imageAfter, phaseAfter, payloadAfter, recordIn, resumes, resumed, reloaded, stepFrom, wakeFrom, asGrouped, cleanupOf, cleanupFrom, lowestBad, inspection, counted, mostStores, padded, heldIn, totalUnlessRefused, asFormatted, asBegun, asCut, partUnlessRefused}
 use Rattle.model.specs.Calls as calls
 use Rattle.model.specs.Drive.{driveNumber, drive, driveUnlessRefused}
-use Rattle.model.specs.Demands.{Lies, at, Does, Starts, OneByte, Formats, Begins, Rides, Groups, WriteStore, markerA, toA, markerB, toB, markerOK, CleanupStore, NextStore, ofWrite, ofCleanup, ofGroup, Stands, Way, fromA, fromB, Cleans, PhaseAfter, writing, written, cleaning, cleaned, grouping, onward, grouped, Counts, more, most, Steps, Wakes, bit, Mixed, Torn, ofData, ofMarker, byMarker, Tears, CutImage, Cuts, Reads, Totals, Inspects, EveryCall, Drives, EveryDrive}
+use Rattle.model.specs.Demands.{Lies, at, granted, Does, Starts, OneByte, Formats, Begins, Rides, Groups, WriteStore, markerA, toA, markerB, toB, markerOK, CleanupStore, NextStore, ofWrite, ofCleanup, ofGroup, Stands, Way, fromA, fromB, Cleans, PhaseAfter, writing, written, cleaning, cleaned, grouping, onward, grouped, Counts, more, most, Steps, Wakes, bit, Mixed, Torn, ofData, ofMarker, byMarker, Tears, CutImage, Cuts, Reads, Totals, Inspects, EveryCall, Drives, EveryDrive}
 use Rattle.model.specs.Demands as demands
 use Rattle.model.proofs.Compare.{below, above, order, equal, differ, same}
 use Rattle.model.proofs.MarkerLaws.{direction-A, direction-other, bits-more}
@@ -72,8 +72,7 @@ zeros-at zero i = refl
 zeros-at (suc n) zero = refl
 zeros-at (suc n) (suc i) = zeros-at n i
 
-no-right : (role : Role) (u : ℕ) → right noRights role u ≡ 0
-unfolding right
+no-right : (role : Role) (u : ℕ) → granted noRights role u ≡ 0
 no-right Rider u = zeros-at 8 u
 no-right Gym u = zeros-at 8 u
 no-right Service u = zeros-at 8 u

@@ -16,6 +16,7 @@ pub mod CasesOfGroups
 pub mod CasesOfRoles
 pub mod TurnLaws
 pub mod Demands
+pub mod RightLaws
 pub mod Refuses
 pub mod PageOne
 pub mod Filler

@@ -9,8 +9,6 @@ use lib.ListN.{length}
 use borrow.Author.Tests.{ltb-true, leb-true, eqb-true, eqb-false, not-true, lt-ltb, le-leb, eq-eqb, ne-eqb}
 use Rattle.model.specs.declared.Plan.{Plan}
 use Rattle.model.specs.declared.Role.{Role}
-use Rattle.model.specs.declared.Rights.{Rights}
-use Rattle.model.specs.declared.Role.the-variants.{Rider, Gym, Service}
 use Rattle.model.specs.declared.Phase.{Phase}
 use Rattle.model.specs.declared.Phase.the-variants.{Cold, Ready, Writing, Recovering, Grouping}
 use Rattle.model.specs.Marker.{OK, FOREIGN, isForeign}
@@ -18,25 +16,20 @@ use Rattle.model.specs.Layout.{marker, width, total, get}
 use Rattle.model.specs.Groups.{Write, last, isRecord, split, memberCount, members, unsplit, among, twice, overlaps, narrow, given, writes, writeAt}
 use Rattle.model.specs.Records.{Has, Overlaps}
 use Rattle.model.specs.Records as records
-use Rattle.model.specs.Rights.{SEE, SEE-AND-WRITE, right, maySee, mayWrite}
+use Rattle.model.specs.Rights.{maySee, mayWrite}
 use Rattle.model.specs.Refusals.{badWrite, dirty, groupNumber, isCold, isReady, writeTotal, cleanupTotal, badCount, badWidths, badPage, badJob, Refusal, _when_, first, planRow, deviceRow, anyForeign, startNumber, formatNumber, beginNumber, stepNumber, wakeNumber, cutNumber, readNumber, inspectNumber, rideNumber, totalNumber}
 use Rattle.model.specs.Turns.{amount}
 use Rattle.model.specs.Calls.{Device, Outcome, view, heldIn, jobOf, unlessRefused, startAnswer}
 use Rattle.model.specs.Calls as calls
-use Rattle.model.specs.Refuses.{First, refusalOrder, Lowest, BadPlan, noUnit, manyUnits, noWidth, wide, otherPage, BadDevice, plan, short, writingNoUnit, writingMade, cleaningNoUnit, cleaningMade, GoodPlan, groupingAlone, groupingNone, groupingPast, groupingMade, BadGroup, BadCut, otherSize, BadFormat, BadWake, foreign, BadStep, BadRead, BadBegin, size, BadRide, rideOrder, BadTotal, granted, RefusedExactly}
+use Rattle.model.specs.Refuses.{First, refusalOrder, Lowest, BadPlan, noUnit, manyUnits, noWidth, wide, otherPage, BadDevice, plan, short, writingNoUnit, writingMade, cleaningNoUnit, cleaningMade, GoodPlan, groupingAlone, groupingNone, groupingPast, groupingMade, BadGroup, BadCut, otherSize, BadFormat, BadWake, foreign, BadStep, BadRead, BadBegin, size, BadRide, rideOrder, BadTotal, RefusedExactly}
 use Rattle.model.specs.Refuses as bad
+use Rattle.model.specs.Demands.{MaySee, MayWrite, writesToo}
 use Rattle.model.proofs.Compare.{below, above, order, equal, differ, same}
 use Rattle.model.proofs.MarkerLaws.{not-foreign}
 use Rattle.model.proofs.RefusalLaws.{PlanOk, and-true, false-or, start-says}
 use Rattle.model.proofs.Records.{group-told, told-group, overlaps-told, told-overlaps, narrow-told, told-narrow, given-told, told-given, write-told, told-write, writes-count}
+use Rattle.model.proofs.RightLaws.{may-see, may-write, not-seen, not-written}
 use Rattle.model.proofs.TurnLaws.{held-amount}
-
--- ---- What the table says of a role and a unit.
-right-is : (rights : Rights) (role : Role) (u : ℕ) → right rights role u ≡ granted rights role u
-unfolding right
-right-is rights Rider u = refl
-right-is rights Gym u = refl
-right-is rights Service u = refl
 
 -- ---- A refusal of the row has the number k and holds: it is the first, or one of the rest.
 data Held (k : ℕ) (r : Refusal) (Rest : Type 0) : Type 0 where
@@ -512,23 +505,17 @@ module _ (d : Device) (image : List ℕ) where
     abbrev unwritable : Bool
     unwritable = not (mayWrite (p .rights) role u)
 
-    see-to : unseen ≡ true → ¬ (granted (p .rights) role u ≡ 1) × ¬ (granted (p .rights) role u ≡ 2)
-    unfolding maySee mayWrite
-    see-to h =
-        let t = false-or _ _ (not-true _ h) in
-        (λ e. eqb-false _ SEE (t .0) (right-is (p .rights) role u ∙ e), λ e. eqb-false _ SEE-AND-WRITE (t .1) (right-is (p .rights) role u ∙ e))
+    see-to : unseen ≡ true → ¬ MaySee (p .rights) role u
+    see-to h m = true≢false (sym (may-see (p .rights) role u m) ∙ not-true _ h)
 
-    see-from : ¬ (granted (p .rights) role u ≡ 1) → ¬ (granted (p .rights) role u ≡ 2) → unseen ≡ true
-    unfolding maySee mayWrite
-    see-from h h′ = rw (right-is (p .rights) role u, ne-eqb (granted (p .rights) role u) 1 h, ne-eqb (granted (p .rights) role u) 2 h′)
+    see-from : ¬ MaySee (p .rights) role u → unseen ≡ true
+    see-from h = ap not (not-seen (p .rights) role u h)
 
-    write-to : unwritable ≡ true → ¬ (granted (p .rights) role u ≡ 2)
-    unfolding mayWrite
-    write-to h e = eqb-false _ SEE-AND-WRITE (not-true _ h) (right-is (p .rights) role u ∙ e)
+    write-to : unwritable ≡ true → ¬ MayWrite (p .rights) role u
+    write-to h m = true≢false (sym (may-write (p .rights) role u m) ∙ not-true _ h)
 
-    write-from : ¬ (granted (p .rights) role u ≡ 2) → unwritable ≡ true
-    unfolding mayWrite
-    write-from h = rw (right-is (p .rights) role u, ne-eqb (granted (p .rights) role u) 2 h)
+    write-from : ¬ MayWrite (p .rights) role u → unwritable ≡ true
+    write-from h = ap not (not-written (p .rights) role u h)
 
     abbrev Read : ℕ → Type 0
     Read = BadRead d image role u
@@ -543,7 +530,7 @@ module _ (d : Device) (image : List ℕ) where
         to : (k : ℕ) → Says k row → Read k
         to k (here e h) = number-is Read 5 k e (bad.BadRead.phase (not-ready-to (d .phase) h))
         to k (there (here e h)) = number-is Read 6 k e (bad.BadRead.unit (leb-true (p .count) u h))
-        to k (there (there (here e h))) = number-is Read 22 k e (let t = see-to h in bad.BadRead.hidden (t .0) (t .1))
+        to k (there (there (here e h))) = number-is Read 22 k e (bad.BadRead.hidden (see-to h))
         to k (there (there (there (here e h)))) = number-is Read 8 k e (bad.BadRead.mark (mark-to u h))
         to k (there (there (there (there q)))) = absurd q
 
@@ -551,7 +538,7 @@ module _ (d : Device) (image : List ℕ) where
         from k (bad.BadRead.device b) = front k row b
         from k (bad.BadRead.phase h) = back 5 row (here refl (not-ready-from (d .phase) h))
         from k (bad.BadRead.unit h) = back 6 row (there (here refl (le-leb (p .count) u h)))
-        from k (bad.BadRead.hidden h h′) = back 22 row (there (there (here refl (see-from h h′))))
+        from k (bad.BadRead.hidden h) = back 22 row (there (there (here refl (see-from h))))
         from k (bad.BadRead.mark h) = back 8 row (there (there (there (here refl (mark-from u h)))))
 
     module _ (payload : List ℕ) where
@@ -582,7 +569,8 @@ module _ (d : Device) (image : List ℕ) where
           from k (bad.BadBegin.asRead (bad.BadRead.device b)) = front k row b
           from k (bad.BadBegin.asRead (bad.BadRead.phase h)) = back 5 row (here refl (not-ready-from (d .phase) h))
           from k (bad.BadBegin.asRead (bad.BadRead.unit h)) = back 6 row (there (here refl (le-leb (p .count) u h)))
-          from k (bad.BadBegin.asRead (bad.BadRead.hidden h h′)) = back 22 row (there (there (there (here refl (write-from h′)))))
+          from k (bad.BadBegin.asRead (bad.BadRead.hidden h)) =
+              back 22 row (there (there (there (here refl (write-from (λ m. h (writesToo m)))))))
           from k (bad.BadBegin.asRead (bad.BadRead.mark h)) = back 8 row (there (there (there (there (there (here refl (mark-from u h)))))))
           from k (size h) = back 7 row (there (there (there (there (here refl (rw (ne-eqb (length payload) (width p u) h)))))))
           from k (bad.BadBegin.theRecord e h) = back 20 row (there (there (here refl (record-from u e h))))
@@ -603,7 +591,7 @@ module _ (d : Device) (image : List ℕ) where
         to : (k : ℕ) → Says k row → Total k
         to k (here e h) = number-is Total 5 k e (bad.BadTotal.asRead (bad.BadRead.phase (not-ready-to (d .phase) h)))
         to k (there (here e h)) = number-is Total 6 k e (bad.BadTotal.asRead (bad.BadRead.unit (leb-true (p .count) u h)))
-        to k (there (there (here e h))) = number-is Total 22 k e (let t = see-to h in bad.BadTotal.asRead (bad.BadRead.hidden (t .0) (t .1)))
+        to k (there (there (here e h))) = number-is Total 22 k e (bad.BadTotal.asRead (bad.BadRead.hidden (see-to h)))
         to k (there (there (there (here e h)))) = number-is Total 8 k e (bad.BadTotal.asRead (bad.BadRead.mark (mark-to u h)))
         to k (there (there (there (there (here e h))))) =
             number-is Total 16 k e (bad.BadTotal.otherWidth (eqb-false (width p u) 8 (not-true _ h)))
@@ -613,7 +601,7 @@ module _ (d : Device) (image : List ℕ) where
         from k (bad.BadTotal.asRead (bad.BadRead.device b)) = front k row b
         from k (bad.BadTotal.asRead (bad.BadRead.phase h)) = back 5 row (here refl (not-ready-from (d .phase) h))
         from k (bad.BadTotal.asRead (bad.BadRead.unit h)) = back 6 row (there (here refl (le-leb (p .count) u h)))
-        from k (bad.BadTotal.asRead (bad.BadRead.hidden h h′)) = back 22 row (there (there (here refl (see-from h h′))))
+        from k (bad.BadTotal.asRead (bad.BadRead.hidden h)) = back 22 row (there (there (here refl (see-from h))))
         from k (bad.BadTotal.asRead (bad.BadRead.mark h)) = back 8 row (there (there (there (here refl (mark-from u h)))))
         from k (bad.BadTotal.otherWidth h) = back 16 row (there (there (there (there (here refl (rw (ne-eqb (width p u) 8 h)))))))
 

@@ -3,7 +3,7 @@ use Prim.Native.Nat.{ℕ, zero, suc, _+_, _-_, _≤_, _<_, min}
 use mathlib.Core.Path.{_≡_, refl, ap, ap₂, sym, _∙_, subst}
 use mathlib.Core.List.{List, [], _∷_, _++_}
 use mathlib.Core.Option.{Option, none, some}
-use mathlib.Core.Bool.{Bool, true, false, cond, not, _||_, or-true, true≢false}
+use mathlib.Core.Bool.{Bool, true, false, cond, not, true≢false}
 use native.Mathlib.Omega.{arith}
 use lib.Dec.{eqb, ltb, leb}
 use lib.ListN.{length, getD, getElem?, take, drop, length-take, length-drop}
@@ -15,7 +15,7 @@ use Rattle.model.specs.declared.Role.{Role}
 use Rattle.model.specs.declared.Phase.{Phase}
 use Rattle.model.specs.declared.Phase.the-variants.{Cold, Ready, Writing, Recovering, Grouping}
 use Rattle.model.specs.Marker.{OK, completed}
-use Rattle.model.specs.Rights.{SEE, right, maySee, mayWrite}
+use Rattle.model.specs.Rights.{maySee, mayWrite}
 use Rattle.model.specs.Layout.{copyA, Cell, marker, byte, InUnit, width, unitLength, base, total, place, get, put, copyOf, unitOf}
 use Rattle.model.specs.Groups.{isRecord}
 use Rattle.model.specs.Turns.{amount}
@@ -31,6 +31,7 @@ use Rattle.model.proofs.Compare.{below, above, order}
 use Rattle.model.proofs.RefusalLaws.{PlanOk, first-past, first-from, past, begin-right}
 use Rattle.model.proofs.LayoutLaws.{offset-bound, unit-some, copy-bound, base-bound, length-stored}
 use Rattle.model.proofs.Demands.{steps}
+use Rattle.model.proofs.RightLaws.{see-may, write-sees, not-written}
 use Rattle.model.proofs.Filler.{set-same}
 
 -- ---- Two lists of one length, alike in n bytes from q on: byte by byte, and as parts.
@@ -57,11 +58,6 @@ stored-same : (p : Plan) (a b : List ℕ) (o : Option Store) (j : ℕ) → lengt
 unfolding stored put
 stored-same p a b none j size h = h
 stored-same p a b (some s) j size h = set-same a b (place p (s .unit) (s .cell)) j (s .value) size h
-
--- see and write is a right to see as well
-write-sees : (rights : Rights) (role : Role) (u : ℕ) → mayWrite rights role u ≡ true → maySee rights role u ≡ true
-unfolding maySee
-write-sees rights role u h = rw h (or-true (eqb (right rights role u) SEE))
 
 module _ (role : Role) where
   -- From Ready a role's calls come to a write that the role may make, and to no other job.
@@ -261,7 +257,7 @@ pub unseen : Unseen
 unseen role d d′ image image′ ready ready′ plan stores payload size alike asks =
     let e : d ≡ d′ = λ i. record { plan = plan i; payload = payload i; phase = (ready ∙ sym ready′) i; stores = stores i } in
     replies-same role asks d image image′ (rw ready tt)
-    (record { size = size; units = λ u h m. same-part image image′ _ _ (alike u h m) })
+    (record { size = size; units = λ u h m. same-part image image′ _ _ (alike u h (see-may (d .plan .rights) role u m)) })
     ∙ ap (λ (x : Device). replies role asks x image′) e
 
 -- ---- What a role changes. A store of a write is in a cell of its unit,
@@ -347,4 +343,4 @@ module _ (role : Role) (u : ℕ) where
       subst (λ (q : Plan). unitOf q (leaves role asks d′ image′) u ≡ unitOf q image′ u) (k .plan) rest ∙ k .unit
 
 pub untouched : Untouched
-untouched role d image ready asks u h barred = leaves-unit role u asks d image (rw ready tt) barred
+untouched role d image ready asks u h barred = leaves-unit role u asks d image (rw ready tt) (not-written (d .plan .rights) role u barred)

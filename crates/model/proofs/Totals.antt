@@ -15,7 +15,6 @@ use Rattle.model.specs.Plans.{width}
 use Rattle.model.specs.Marker.{OK, End, completed, tornBy}
 use Rattle.model.specs.Turns.{amount, plus}
 use Rattle.model.specs.Groups.{Write, write, last, among, members, writeAt, isLastWrite}
-use Rattle.model.specs.Rights.{maySee}
 use Rattle.model.specs.Refusals.{Job, cold, ready, writing, recovering, grouping, View, totalNumber}
 use Rattle.model.specs.Layout.{Copy, copyA, total, copyOf}
 use Rattle.model.specs.Calls.{Outcome, viewOf, totalUnlessRefused, AllMarkersOk}
@@ -23,7 +22,9 @@ use Rattle.model.specs.Calls as calls
 use Rattle.model.specs.Ledger.{Ledger, Call, begin, ride, group, step, cut, wake, opening, judged, told, saving, savingAll, countWith, passesAt, standing, resumed, reloaded, stepped, wasCut, accepted, fed, after}
 use Rattle.model.specs.Ledger as ledger
 use Rattle.model.specs.PowerCut.{call, run, closedBy, repair}
+use Rattle.model.specs.Demands.{MaySee}
 use Rattle.model.specs.Totals.{passesNext, dueAfter, counts, whenAccepted, passed, sum, turnsOver, OnlyRides, TurnsAddUp}
+use Rattle.model.proofs.RightLaws.{may-see}
 use Rattle.model.proofs.RefusalLaws.{PlanOk, false-or, count-bounds, total-ready}
 use Rattle.model.proofs.LedgerLaws.{saving-same, saving-other}
 use Rattle.model.proofs.TurnLaws.{ride-says, plus-amount, zeros-amount}
@@ -304,13 +305,13 @@ module _ (p : Plan) where
 
 -- what the console shows of a Ready device whose markers are OK
 shown : (p : Plan) → PlanOk p → (o : Outcome) → o .device .plan ≡ p → o .device .phase ≡ Ready → total p ≤ length (o .image)
-    → AllMarkersOk p (o .image) → width p 0 ≡ 8 → (role : Role) → maySee (p .rights) role 0 ≡ true → (turns : ℕ) → amount (copyOf p (o .image) 0 copyA) ≡ turns
+    → AllMarkersOk p (o .image) → width p 0 ≡ 8 → (role : Role) → MaySee (p .rights) role 0 → (turns : ℕ) → amount (copyOf p (o .image) 0 copyA) ≡ turns
     → calls.totalOf (o .device) (o .image) role 0 ≡ record { number = 0; amount = turns }
 unfolding calls.totalOf
 shown p ok o plan phase long markers w role right turns holds =
     let first : 0 < p .count = count-bounds p ok .0 in
     let v : View = viewOf p (o .device .payload) Ready (o .image) in
-    let n : totalNumber v role 0 ≡ 0 = total-ready v ok (le-ltb (length (o .image)) (total p) long) refl role 0 first right (markers 0 first) w in
+    let n : totalNumber v role 0 ≡ 0 = total-ready v ok (le-ltb (length (o .image)) (total p) long) refl role 0 first (may-see (p .rights) role 0 right) (markers 0 first) w in
     ap₂ (λ (q : Plan) (x : Phase). totalUnlessRefused (totalNumber (viewOf q (o .device .payload) x (o .image)) role 0) (amount (copyOf q (o .image) 0 copyA))) plan phase
     ∙ ap₂ totalUnlessRefused n holds
 

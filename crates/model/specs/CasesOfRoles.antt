@@ -1,6 +1,6 @@
 -- Ticket 11 as rows. Device and ledger read the table of rights alike, so no theorem over the ledger sees a wrong reading of it: here is
 -- each role's answer for each unit and each kind of number, and the order of 22 among the others.
-use Prim.Native.Nat.{ℕ}
+use Prim.Native.Nat.{ℕ, _+_}
 use mathlib.Core.Path.{_≡_}
 use mathlib.Core.Bool.{Bool, true, false}
 use mathlib.Core.List.{List, [], _∷_, _++_, map}
@@ -51,26 +51,19 @@ readsOf m role = map (λ (u : ℕ). readNumber (view (device false Ready) (marke
 abbrev beginsOf : ℕ → Role → List ℕ
 beginsOf m role = map (λ (u : ℕ). beginNumber (view (device false Ready) (marked m)) role u 1) units
 
-abbrev pub EveryRight : Type 0
-EveryRight =
-    readsOf 1 Rider ∷ readsOf 1 Gym ∷ readsOf 1 Service
-    ∷ readsOf 2 Rider ∷ readsOf 2 Gym ∷ readsOf 2 Service
-    ∷ beginsOf 1 Rider ∷ beginsOf 1 Gym ∷ beginsOf 1 Service
-    ∷ beginsOf 2 Rider ∷ beginsOf 2 Gym ∷ beginsOf 2 Service
-    ∷ []
-    ≡ (22 ∷ 0 ∷ 0 ∷ 22 ∷ 22 ∷ 0 ∷ 22 ∷ 0 ∷ 6 ∷ [])
-    ∷ (0 ∷ 22 ∷ 0 ∷ 0 ∷ 0 ∷ 22 ∷ 22 ∷ 0 ∷ 6 ∷ [])
-    ∷ (0 ∷ 0 ∷ 22 ∷ 22 ∷ 0 ∷ 0 ∷ 0 ∷ 22 ∷ 6 ∷ [])
-    ∷ (22 ∷ 8 ∷ 8 ∷ 22 ∷ 22 ∷ 8 ∷ 22 ∷ 8 ∷ 6 ∷ [])
-    ∷ (8 ∷ 22 ∷ 8 ∷ 8 ∷ 8 ∷ 22 ∷ 22 ∷ 8 ∷ 6 ∷ [])
-    ∷ (8 ∷ 8 ∷ 22 ∷ 22 ∷ 8 ∷ 8 ∷ 8 ∷ 22 ∷ 6 ∷ [])
-    ∷ (22 ∷ 22 ∷ 0 ∷ 22 ∷ 22 ∷ 0 ∷ 22 ∷ 22 ∷ 6 ∷ [])
-    ∷ (0 ∷ 22 ∷ 22 ∷ 0 ∷ 22 ∷ 22 ∷ 22 ∷ 0 ∷ 6 ∷ [])
-    ∷ (22 ∷ 0 ∷ 22 ∷ 22 ∷ 0 ∷ 22 ∷ 0 ∷ 22 ∷ 6 ∷ [])
-    ∷ (22 ∷ 22 ∷ 8 ∷ 22 ∷ 22 ∷ 8 ∷ 22 ∷ 22 ∷ 6 ∷ [])
-    ∷ (8 ∷ 22 ∷ 22 ∷ 8 ∷ 22 ∷ 22 ∷ 22 ∷ 8 ∷ 6 ∷ [])
-    ∷ (22 ∷ 8 ∷ 22 ∷ 22 ∷ 8 ∷ 22 ∷ 8 ∷ 22 ∷ 6 ∷ [])
-    ∷ []
+pub record EveryRight : Type 0 where
+  pub readRider : readsOf 1 Rider ≡ 22 ∷ 0 ∷ 0 ∷ 22 ∷ 22 ∷ 0 ∷ 22 ∷ 0 ∷ 6 ∷ []
+  pub readGym : readsOf 1 Gym ≡ 0 ∷ 22 ∷ 0 ∷ 0 ∷ 0 ∷ 22 ∷ 22 ∷ 0 ∷ 6 ∷ []
+  pub readService : readsOf 1 Service ≡ 0 ∷ 0 ∷ 22 ∷ 22 ∷ 0 ∷ 0 ∷ 0 ∷ 22 ∷ 6 ∷ []
+  pub tornRider : readsOf 2 Rider ≡ 22 ∷ 8 ∷ 8 ∷ 22 ∷ 22 ∷ 8 ∷ 22 ∷ 8 ∷ 6 ∷ []
+  pub tornGym : readsOf 2 Gym ≡ 8 ∷ 22 ∷ 8 ∷ 8 ∷ 8 ∷ 22 ∷ 22 ∷ 8 ∷ 6 ∷ []
+  pub tornService : readsOf 2 Service ≡ 8 ∷ 8 ∷ 22 ∷ 22 ∷ 8 ∷ 8 ∷ 8 ∷ 22 ∷ 6 ∷ []
+  pub beginRider : beginsOf 1 Rider ≡ 22 ∷ 22 ∷ 0 ∷ 22 ∷ 22 ∷ 0 ∷ 22 ∷ 22 ∷ 6 ∷ []
+  pub beginGym : beginsOf 1 Gym ≡ 0 ∷ 22 ∷ 22 ∷ 0 ∷ 22 ∷ 22 ∷ 22 ∷ 0 ∷ 6 ∷ []
+  pub beginService : beginsOf 1 Service ≡ 22 ∷ 0 ∷ 22 ∷ 22 ∷ 0 ∷ 22 ∷ 0 ∷ 22 ∷ 6 ∷ []
+  pub beginTornRider : beginsOf 2 Rider ≡ 22 ∷ 22 ∷ 8 ∷ 22 ∷ 22 ∷ 8 ∷ 22 ∷ 22 ∷ 6 ∷ []
+  pub beginTornGym : beginsOf 2 Gym ≡ 8 ∷ 22 ∷ 22 ∷ 8 ∷ 22 ∷ 22 ∷ 22 ∷ 8 ∷ 6 ∷ []
+  pub beginTornService : beginsOf 2 Service ≡ 22 ∷ 8 ∷ 22 ∷ 22 ∷ 8 ∷ 22 ∷ 8 ∷ 22 ∷ 6 ∷ []
 
 -- ---- the order: read 5, 6, 22, 8; a total 5, 6, 22, 8, 16; begin 5, 6, 20, 22, 7, 8
 abbrev read : Phase → ℕ → Role → ℕ → ℕ
@@ -82,20 +75,28 @@ total phase m role u = totalNumber (view (device false phase) (marked m)) role u
 abbrev begun : Bool → Phase → ℕ → Role → ℕ → ℕ → ℕ
 begun grouped phase m role u size = beginNumber (view (device grouped phase) (marked m)) role u size
 
-abbrev pub EveryOrder : Type 0
-EveryOrder =
-    read Cold 2 Rider 8 ∷ read Ready 2 Rider 8 ∷ read Ready 2 Rider 0 ∷ read Ready 2 Rider 1 ∷ read Ready 1 Rider 1
-    ∷ total Cold 2 Rider 8 ∷ total Ready 2 Rider 8 ∷ total Ready 2 Rider 0 ∷ total Ready 2 Rider 1 ∷ total Ready 1 Rider 1
-    ∷ begun true Cold 2 Rider 8 0 ∷ begun true Ready 2 Rider 8 0
-    ∷ begun true Ready 2 Rider 7 0 ∷ begun false Ready 2 Rider 7 0
-    ∷ begun true Ready 2 Gym 7 0 ∷ begun false Ready 2 Gym 7 0 ∷ begun false Ready 2 Gym 7 1 ∷ begun false Ready 1 Gym 7 1
-    ∷ []
-    ≡ 5 ∷ 6 ∷ 22 ∷ 8 ∷ 0
-    ∷ 5 ∷ 6 ∷ 22 ∷ 8 ∷ 16
-    ∷ 5 ∷ 6
-    ∷ 20 ∷ 22
-    ∷ 20 ∷ 7 ∷ 8 ∷ 0
-    ∷ []
+pub record EveryOrder : Type 0 where
+  -- read
+  pub readCold : read Cold 2 Rider 8 ≡ 5
+  pub readPast : read Ready 2 Rider 8 ≡ 6
+  pub readHidden : read Ready 2 Rider 0 ≡ 22
+  pub readTorn : read Ready 2 Rider 1 ≡ 8
+  pub readSeen : read Ready 1 Rider 1 ≡ 0
+  -- a total
+  pub totalCold : total Cold 2 Rider 8 ≡ 5
+  pub totalPast : total Ready 2 Rider 8 ≡ 6
+  pub totalHidden : total Ready 2 Rider 0 ≡ 22
+  pub totalTorn : total Ready 2 Rider 1 ≡ 8
+  pub totalNarrow : total Ready 1 Rider 1 ≡ 16
+  -- begin: unit 7 is the record where the device is grouped, a rider may not write it and the gym may
+  pub beginCold : begun true Cold 2 Rider 8 0 ≡ 5
+  pub beginPast : begun true Ready 2 Rider 8 0 ≡ 6
+  pub beginRecord : begun true Ready 2 Rider 7 0 ≡ 20
+  pub beginRecordToo : begun true Ready 2 Gym 7 0 ≡ 20
+  pub beginBarred : begun false Ready 2 Rider 7 0 ≡ 22
+  pub beginSize : begun false Ready 2 Gym 7 0 ≡ 7
+  pub beginTorn : begun false Ready 2 Gym 7 1 ≡ 8
+  pub beginGood : begun false Ready 1 Gym 7 1 ≡ 0
 
 -- ---- the ledger answers a begin alike
 abbrev pub EveryTold : Type 0
@@ -104,8 +105,14 @@ EveryTold =
     (begin Rider 0 (9 ∷ []) ∷ begin Gym 2 (9 ∷ []) ∷ begin Service 2 [] ∷ begin Gym 0 (9 ∷ []) ∷ begin Gym 0 (9 ∷ []) ∷ [])
     ≡ 22 ∷ 22 ∷ 22 ∷ 0 ∷ 5 ∷ []
 
--- ---- the part and the amount that are shown; the amount of a unit that is not eight bytes wide is none
+-- ---- the part that a read shows: copy A, of the units that the gym may see
+abbrev filled : List ℕ
+filled = unit 0 ++ unit 1 ++ unit 2 ++ unit 3 ++ unit 4 ++ unit 5 ++ unit 6 ++ unit 7
+  where
+    unit : ℕ → List ℕ
+    unit u = 1 ∷ (10 + u) ∷ (20 + u) ∷ []
+
 abbrev pub EveryShown : Type 0
 EveryShown =
-    (map (λ (u : ℕ). calls.read (device false Ready) (marked 1) Gym u) units
-    ≡ (0 ∷ []) ∷ [] ∷ (0 ∷ []) ∷ (0 ∷ []) ∷ (0 ∷ []) ∷ [] ∷ [] ∷ (0 ∷ []) ∷ [] ∷ [])
+    map (λ (u : ℕ). calls.read (device false Ready) filled Gym u) units
+    ≡ (10 ∷ []) ∷ [] ∷ (12 ∷ []) ∷ (13 ∷ []) ∷ (14 ∷ []) ∷ [] ∷ [] ∷ (17 ∷ []) ∷ [] ∷ []

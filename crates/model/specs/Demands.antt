@@ -14,14 +14,15 @@ use mathlib.Core.Bool.{false, cond}
 use lib.Dec.{eqb}
 use lib.ListN.{length, getD, replicate}
 use Rattle.model.specs.declared.Plan.{Plan}
+use Rattle.model.specs.declared.Rights.{Rights}
 use Rattle.model.specs.declared.Role.{Role}
+use Rattle.model.specs.declared.Role.the-variants.{Rider, Gym, Service}
 use Rattle.model.specs.declared.Direction.{Direction}
 use Rattle.model.specs.declared.Direction.the-variants.{AToB, BToA}
 use Rattle.model.specs.declared.Phase.{Phase}
 use Rattle.model.specs.declared.Phase.the-variants.{Cold, Ready, Writing, Recovering, Grouping}
 use Rattle.model.specs.declared.Inspection.{Inspection}
 use Rattle.model.specs.declared.Inspection.the-variants.{Refused, Suspect, AllOk}
-use Rattle.model.specs.Rights.{right}
 use Rattle.model.specs.Layout.{Copy, copyA, copyB, Cell, marker, byte, width, copyLength, base, total, place}
 use Rattle.model.specs.Refusals.{readNumber, inspectNumber, totalNumber}
 use Rattle.model.specs.Calls.{Device, Answer, Outcome, outcome, view, Total}
@@ -53,6 +54,20 @@ pub record Lies (p : Plan) : Type 0 where
 abbrev pub at : Plan → List ℕ → ℕ → Cell → ℕ
 at p image u c = getD image (place p u c) 0
 
+-- ---- What the table of rights says. Ticket 11: it "gives each role, per unit: nothing, see, or see and write", which are 0, 1 and 2;
+-- any other number is nothing too.
+abbrev pub granted : Rights → Role → ℕ → ℕ
+granted rights Rider u = getD (rights .rider) u 0
+granted rights Gym u = getD (rights .gym) u 0
+granted rights Service u = getD (rights .service) u 0
+
+pub data MaySee (rights : Rights) (role : Role) (u : ℕ) : Type 0 where
+  sees : granted rights role u ≡ 1 → MaySee rights role u
+  writesToo : granted rights role u ≡ 2 → MaySee rights role u
+
+abbrev pub MayWrite : Rights → Role → ℕ → Type 0
+MayWrite rights role u = granted rights role u ≡ 2
+
 -- ---- A call on a device and an image. Accepted, its outcome is as P says; refused, "a refusal returns the device it got and
 -- changes no lent byte".
 pub record Does (P : Outcome → Type 0) (d : Device) (image : List ℕ) (o : Outcome) : Type 0 where
@@ -67,7 +82,7 @@ pub record Starts (p : Plan) (a : Answer) : Type 0 where
   pub widths : ¬ (a .number ≡ 0) → a .device .plan .widths ≡ replicate 8 0
   pub page : ¬ (a .number ≡ 0) → a .device .plan .page ≡ 1
   pub ungrouped : ¬ (a .number ≡ 0) → a .device .plan .grouped ≡ false
-  pub rightless : ¬ (a .number ≡ 0) → (role : Role) (u : ℕ) → right (a .device .plan .rights) role u ≡ 0
+  pub rightless : ¬ (a .number ≡ 0) → (role : Role) (u : ℕ) → granted (a .device .plan .rights) role u ≡ 0
   pub phase : a .device .phase ≡ Cold
   pub payload : a .device .payload ≡ replicate 256 0
   pub stores : a .device .stores ≡ 0

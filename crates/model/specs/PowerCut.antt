@@ -1,9 +1,9 @@
 -- THE POWER-CUT THEOREM, demand 3 of document 01, as one statement. It is proved in proofs/Theorem.antt.
 --
--- Format a device. Then let anything happen: begins by any role, of any unit, with any payload, rides, groups of any bytes, steps, power cuts that
--- leave any bytes in a page, wakes, in any order, calls that are refused among them; and at last one more cut, which is accepted. Then
--- one wake and an exact number of steps bring every marker to OK and both copies of every unit to the payload of its last write that
--- passed, where a group's members pass all at once; and no group record is left standing.
+-- Format a device. Then let anything happen: begins by any role, of any unit, with any payload, rides, groups of any bytes, steps,
+-- power cuts that leave any bytes in a page, wakes, in any order, calls that are refused among them; and at last one more cut, which is
+-- accepted. Then one wake and an exact number of steps bring every marker to OK and both copies of every unit to the payload of its last
+-- write that passed, where a group's members pass all at once; and no group record is left standing.
 use Prim.Native.Nat.{ℕ, _+_, _≤_, _<_}
 use mathlib.Core.Path.{_≡_}
 use mathlib.Core.List.{List, [], _∷_, _++_}

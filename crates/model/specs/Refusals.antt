@@ -160,8 +160,7 @@ totalNumber v role u =
     first
     (deviceRow v
     ++ (WRONG-PHASE when not (isReady (v .job))
-    ∷ NO-UNIT when leb (v .plan .count) u
-    ∷ NO-RIGHT when not (maySee (v .plan .rights) role u)
+    ∷ NO-UNIT when leb (v .plan .count) u ∷ NO-RIGHT when not (maySee (v .plan .rights) role u)
     ∷ BAD-MARKER when not (eqb (v .marker u) OK)
     ∷ NO-TOTAL when not (eqb (width (v .plan) u) 8)
     ∷ []))

@@ -6,11 +6,9 @@ use mathlib.Core.Bool.{true, false, cond}
 use lib.Dec.{eqb}
 use mathlib.Core.Path.{_≡_}
 use mathlib.Core.List.{List}
-use lib.ListN.{length, getD}
+use lib.ListN.{length}
 use Rattle.model.specs.declared.Plan.{Plan}
-use Rattle.model.specs.declared.Rights.{Rights}
 use Rattle.model.specs.declared.Role.{Role}
-use Rattle.model.specs.declared.Role.the-variants.{Rider, Gym, Service}
 use Rattle.model.specs.declared.Direction.{Direction}
 use Rattle.model.specs.declared.Phase.the-variants.{Cold, Ready, Writing, Recovering, Grouping}
 use Rattle.model.specs.Layout.{marker, width, total}
@@ -19,7 +17,7 @@ use Rattle.model.specs.Records.{IsGroup, Has, IsLast, Overlaps, Narrow, 
 use Rattle.model.specs.Refusals.{readNumber, inspectNumber, totalNumber}
 use Rattle.model.specs.Calls.{Device, view}
 use Rattle.model.specs.Calls as calls
-use Rattle.model.specs.Demands.{at, held}
+use Rattle.model.specs.Demands.{at, held, MaySee, MayWrite}
 
 -- "a refusal is given only when its condition holds", and of those whose conditions hold, the one that is tested first
 pub record First (order : ℕ → ℕ) (Applies : ℕ → Type 0) (n : ℕ) : Type 0 where
@@ -91,18 +89,12 @@ pub data BadStep (d : Device) (image : List ℕ) : ℕ → Type 0 where
   cold : d .phase ≡ Cold → BadStep d image 5
   ready : d .phase ≡ Ready → BadStep d image 5
 
--- Ticket 11: the table "gives each role, per unit: nothing, see, or see and write": 1 for see, 2 for see and write
-abbrev pub granted : Rights → Role → ℕ → ℕ
-granted rights Rider u = getD (rights .rider) u 0
-granted rights Gym u = getD (rights .gym) u 0
-granted rights Service u = getD (rights .service) u 0
-
 -- "begin and read outside Ready"; "6 unit k or more"; "8 that unit's marker isn't 1"; "22 when the right is lacking": read wants see
 pub data BadRead (d : Device) (image : List ℕ) (role : Role) (u : ℕ) : ℕ → Type 0 where
   device : {n : ℕ} → BadDevice d image n → BadRead d image role u n
   phase : ¬ (d .phase ≡ Ready) → BadRead d image role u 5
   unit : d .plan .count ≤ u → BadRead d image role u 6
-  hidden : ¬ (granted (d .plan .rights) role u ≡ 1) → ¬ (granted (d .plan .rights) role u ≡ 2) → BadRead d image role u 22
+  hidden : ¬ MaySee (d .plan .rights) role u → BadRead d image role u 22
   mark : ¬ (at (d .plan) image u marker ≡ 1) → BadRead d image role u 8
 
 -- "7 payload length not w (begin)"; Ticket 10: the group record "takes no ordinary begin"; begin wants see and write
@@ -110,7 +102,7 @@ pub data BadBegin (d : Device) (image : List ℕ) (role : Role) (u : ℕ) (paylo
   asRead : {n : ℕ} → BadRead d image role u n → BadBegin d image role u payload n
   size : ¬ (length payload ≡ width (d .plan) u) → BadBegin d image role u payload 7
   theRecord : d .plan .grouped ≡ true → IsLast (d .plan) u → BadBegin d image role u payload 20
-  unwritable : ¬ (granted (d .plan .rights) role u ≡ 2) → BadBegin d image role u payload 22
+  unwritable : ¬ MayWrite (d .plan .rights) role u → BadBegin d image role u payload 22
 
 -- Ticket 7: "15 if the sum exceeds 64 bits, tested after 8; 16 if unit 0's width isn't 8, tested after 5"
 pub data BadRide (d : Device) (image : List ℕ) (turns : ℕ) : ℕ → Type 0 where

@@ -5,15 +5,14 @@
 use Prim.Native.Nat.{ℕ, _<_}
 use mathlib.Core.Path.{_≡_}
 use mathlib.Core.List.{List, [], _∷_}
-use mathlib.Core.Bool.{true, false}
 use lib.ListN.{length}
 use Rattle.model.specs.declared.Phase.the-variants.{Ready}
 use Rattle.model.specs.declared.Role.{Role}
-use Rattle.model.specs.Rights.{maySee, mayWrite}
 use Rattle.model.specs.Layout.{unitOf}
 use Rattle.model.specs.Refusals.{readNumber}
 use Rattle.model.specs.Calls.{Device, Outcome, outcome, view}
 use Rattle.model.specs.Calls as calls
+use Rattle.model.specs.Demands.{MaySee, MayWrite}
 
 -- ---- "any list of the rider's reads and begins with steps between; cut, wake and groups are left out of this list". A total is a read.
 pub data Ask : Type 0 where
@@ -76,7 +75,7 @@ Unseen =
     → d .phase ≡ Ready → d′ .phase ≡ Ready
     → d .plan ≡ d′ .plan → d .stores ≡ d′ .stores → d .payload ≡ d′ .payload
     → length image ≡ length image′
-    → ((u : ℕ) → u < d .plan .count → maySee (d .plan .rights) role u ≡ true → unitOf (d .plan) image u ≡ unitOf (d .plan) image′ u)
+    → ((u : ℕ) → u < d .plan .count → MaySee (d .plan .rights) role u → unitOf (d .plan) image u ≡ unitOf (d .plan) image′ u)
     → (asks : List Ask) → replies role asks d image ≡ replies role asks d′ image′
 
 -- ---- A unit that a role may not write keeps its marker, both copies and its filler.
@@ -85,5 +84,5 @@ Untouched =
     (role : Role) (d : Device) (image : List ℕ)
     → d .phase ≡ Ready
     → (asks : List Ask)
-    → (u : ℕ) → u < d .plan .count → mayWrite (d .plan .rights) role u ≡ false
+    → (u : ℕ) → u < d .plan .count → ¬ MayWrite (d .plan .rights) role u
     → unitOf (d .plan) (leaves role asks d image) u ≡ unitOf (d .plan) image u

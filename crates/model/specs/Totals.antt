@@ -5,7 +5,7 @@
 use Prim.Native.Nat.{ℕ, zero, suc, _+_}
 use mathlib.Core.Path.{_≡_}
 use mathlib.Core.List.{List, [], _∷_, _++_}
-use mathlib.Core.Bool.{Bool, true, false, cond}
+use mathlib.Core.Bool.{Bool, false, cond}
 use lib.ListN.{replicate}
 use Rattle.model.specs.declared.Plan.{Plan}
 use Rattle.model.specs.declared.Role.{Role}
@@ -14,10 +14,10 @@ use Rattle.model.specs.Layout.{Copy, width, copyOf}
 use Rattle.model.specs.Turns.{amount}
 use Rattle.model.specs.Groups.{write, among, members}
 use Rattle.model.specs.Refusals.{Job, cold, ready, writing, recovering, grouping}
-use Rattle.model.specs.Rights.{maySee}
 use Rattle.model.specs.Calls.{Device, Outcome}
 use Rattle.model.specs.Calls as calls
 use Rattle.model.specs.Ledger.{Ledger, Call, begin, ride, group, step, cut, wake, opening, told, passesAt, fed}
+use Rattle.model.specs.Demands.{MaySee}
 use Rattle.model.specs.PowerCut.{run, answers, closedBy, Closes, repair, Takes}
 
 -- ---- "rides whose write passed"
@@ -88,7 +88,7 @@ pub record Totalled (p : Plan) (cutOff : Outcome) (turns : ℕ) : Type 0 where
   pub holds : (c : Copy) → amount (copyOf p (run (repair steps) cutOff .image) 0 c) ≡ turns
   -- and the console shows it, to a role that may see it
   pub shows : width p 0 ≡ 8
-      → (role : Role) → maySee (p .rights) role 0 ≡ true
+      → (role : Role) → MaySee (p .rights) role 0
       → calls.totalOf (run (repair steps) cutOff .device) (run (repair steps) cutOff .image) role 0 ≡ record { number = 0; amount = turns }
 
 -- "For every list of ride, step, cut and wake from a formatted device ending in a cut .. the total equals the sum over rides whose
