@@ -154,6 +154,14 @@ module _ (p : Plan) (x y : List ℕ) (s : SameCells p x y) where
         )
 
 -- ---- The calls.
+-- what is shown unless it is refused
+pub unrefused-same : {A B : Type 0} (show : ℕ → A → B) (nothing : A) → ((n : ℕ) (a : A) → show (suc n) a ≡ show (suc n) nothing)
+    → (n n′ : ℕ) {a b : A} → n ≡ n′ → (n ≡ 0 → a ≡ b) → show n a ≡ show n′ b
+unrefused-same show nothing hides zero zero e h = ap (show 0) (h refl)
+unrefused-same show nothing hides zero (suc n′) e h = absurd (omega arith)
+unrefused-same show nothing hides (suc n) zero e h = absurd (omega arith)
+unrefused-same show nothing hides (suc n) (suc n′) {a} {b} e h = hides n a ∙ ap (λ (k : ℕ). show k nothing) e ∙ sym (hides n′ b)
+
 module _ (d : Device) (x y : List ℕ) (s : SameCells (d .plan) x y) where
   alike : Alike (view d x) (view d y)
   alike =
@@ -258,23 +266,15 @@ module _ (d : Device) (x y : List ℕ) (s : SameCells (d .plan) x y) where
       let h₆ = first-past 5 (leb (d .plan .count) u) _ (h₅ .1) in
       held-same (h .plan) (h .long) u (leb-false (d .plan .count) u (h₆ .0))
 
-  -- what is shown unless it is refused
-  shown-same : {A B : Type 0} (show : ℕ → A → B) (nothing : A) → ((n : ℕ) (a : A) → show (suc n) a ≡ show (suc n) nothing)
-      → (n n′ : ℕ) {a b : A} → n ≡ n′ → (n ≡ 0 → a ≡ b) → show n a ≡ show n′ b
-  shown-same show nothing hides zero zero e h = ap (show 0) (h refl)
-  shown-same show nothing hides zero (suc n′) e h = absurd (omega arith)
-  shown-same show nothing hides (suc n) zero e h = absurd (omega arith)
-  shown-same show nothing hides (suc n) (suc n′) {a} {b} e h = hides n a ∙ ap (λ (k : ℕ). show k nothing) e ∙ sym (hides n′ b)
-
   read-same : (role : Role) (u : ℕ) → calls.read d x role u ≡ calls.read d y role u
   unfolding calls.read readNumber
   read-same role u =
-      shown-same partUnlessRefused [] (λ n a. refl) (readNumber (view d x) role u) (readNumber (view d y) role u) (read-alike alike role u) (read-held u _)
+      unrefused-same partUnlessRefused [] (λ n a. refl) (readNumber (view d x) role u) (readNumber (view d y) role u) (read-alike alike role u) (read-held u _)
 
   total-same : (role : Role) (u : ℕ) → calls.totalOf d x role u ≡ calls.totalOf d y role u
   unfolding calls.totalOf totalNumber
   total-same role u =
-      shown-same totalUnlessRefused 0 (λ n a. refl) (totalNumber (view d x) role u) (totalNumber (view d y) role u) (total-alike alike role u)
+      unrefused-same totalUnlessRefused 0 (λ n a. refl) (totalNumber (view d x) role u) (totalNumber (view d y) role u) (total-alike alike role u)
       (λ z. ap amount (read-held u _ z))
 
 -- ---- Lists of calls.

@@ -1,5 +1,5 @@
 -- Ticket 11: no role finds out about a unit that it may not see, and none changes a unit that it may not write.
-use Prim.Native.Nat.{ℕ, zero, suc, _+_, _-_, _≤_, _<_, min}
+use Prim.Native.Nat.{ℕ, zero, suc, _+_, _-_, _<_, min}
 use mathlib.Core.Path.{_≡_, refl, ap, ap₂, sym, _∙_, subst}
 use mathlib.Core.List.{List, [], _∷_, _++_}
 use mathlib.Core.Option.{Option, none, some}
@@ -23,16 +23,16 @@ use Rattle.model.specs.Refusals.{Refusal, _when_, first, firstFour, devi
 use Rattle.model.specs.Stores.{Store, writeStores, stored}
 use Rattle.model.specs.Calls.{Device, Outcome, outcome, asStepped, view, jobOf, heldIn, next, imageAfter, phaseAfter, payloadAfter, stepFrom, unlessRefused, partUnlessRefused, totalUnlessRefused}
 use Rattle.model.specs.Calls as calls
-use Rattle.model.specs.Demands.{WriteStore, NextStore, Steps}
+use Rattle.model.specs.Demands.{WriteStore, NextStore}
 use Rattle.model.specs.Demands as demands
-use Rattle.model.specs.Roles.{Ask, read, begin, step, ask, shown, amounts, Reply, reply, replies, leaves, Unseen, Untouched}
+use Rattle.model.specs.Roles.{Ask, read, begin, step, ask, shown, amounts, replies, leaves, Unseen, Untouched}
 use Rattle.model.specs.Roles as roles
 use Rattle.model.proofs.Compare.{below, above, order}
 use Rattle.model.proofs.RefusalLaws.{PlanOk, first-past, first-from, past, begin-right}
 use Rattle.model.proofs.LayoutLaws.{offset-bound, unit-some, copy-bound, base-bound, length-stored}
 use Rattle.model.proofs.Demands.{steps}
 use Rattle.model.proofs.RightLaws.{see-may, write-sees, not-written}
-use Rattle.model.proofs.Filler.{set-same}
+use Rattle.model.proofs.Filler.{set-same, unrefused-same}
 
 -- ---- Two lists of one length, alike in n bytes from q on: byte by byte, and as parts.
 abbrev Same : List ℕ → List ℕ → ℕ → ℕ → Type 0
@@ -159,25 +159,15 @@ module _ (role : Role) where
 
     part-shown : (u : ℕ) → calls.read d a role u ≡ calls.read d b role u
     unfolding calls.read readNumber
-    part-shown u = go (readNumber (view d a) role u) (readNumber (view d b) role u) (read-same u) (read-held u _)
-      where
-        go : (n n′ : ℕ) → n ≡ n′ → (n ≡ 0 → heldIn d a u ≡ heldIn d b u)
-            → partUnlessRefused n (heldIn d a u) ≡ partUnlessRefused n′ (heldIn d b u)
-        go zero zero e h = h refl
-        go zero (suc n′) e h = absurd (omega arith)
-        go (suc n) zero e h = absurd (omega arith)
-        go (suc n) (suc n′) e h = refl
+    part-shown u =
+        unrefused-same partUnlessRefused [] (λ n x. refl) (readNumber (view d a) role u) (readNumber (view d b) role u) (read-same u)
+        (read-held u _)
 
     total-shown : (u : ℕ) → calls.totalOf d a role u ≡ calls.totalOf d b role u
     unfolding calls.totalOf totalNumber
-    total-shown u = go (totalNumber (view d a) role u) (totalNumber (view d b) role u) (total-same u) (read-held u _)
-      where
-        go : (n n′ : ℕ) → n ≡ n′ → (n ≡ 0 → heldIn d a u ≡ heldIn d b u)
-            → totalUnlessRefused n (amount (heldIn d a u)) ≡ totalUnlessRefused n′ (amount (heldIn d b u))
-        go zero zero e h = ap (λ (bytes : List ℕ). totalUnlessRefused 0 (amount bytes)) (h refl)
-        go zero (suc n′) e h = absurd (omega arith)
-        go (suc n) zero e h = absurd (omega arith)
-        go (suc n) (suc n′) e h = ap (λ (k : ℕ). totalUnlessRefused k 0) e
+    total-shown u =
+        unrefused-same totalUnlessRefused 0 (λ n x. refl) (totalNumber (view d a) role u) (totalNumber (view d b) role u) (total-same u)
+        (λ z. ap amount (read-held u _ z))
 
     shown-same : (x : Ask) → shown role x d a ≡ shown role x d b
     unfolding shown

@@ -1,5 +1,5 @@
 -- A group that is cut leaves all its members or none: of the ledger, along the group's steps, and whatever is called after them.
-use Prim.Native.Nat.{ℕ, zero, suc, _+_, _-_, _*_, _≤_, _<_}
+use Prim.Native.Nat.{ℕ, zero, suc, _+_, _*_, _≤_, _<_}
 use mathlib.Core.Path.{_≡_, refl, ap, sym, _∙_, subst, fun-ext}
 use mathlib.Core.List.{List, [], _∷_, _++_}
 use mathlib.Core.Bool.{Bool, true, false, cond, _&&_, true≢false, false≢true}
@@ -9,7 +9,7 @@ use lib.ListN.{replicate}
 use borrow.Author.Tests.{ne-eqb, ltb-true, lt-ltb}
 use Rattle.model.specs.declared.Plan.{Plan}
 use Rattle.model.specs.Plans.{width}
-use Rattle.model.specs.Marker.{OK, B, End, completed, tornBy, markerLeft}
+use Rattle.model.specs.Marker.{OK, B, completed, tornBy, markerLeft}
 use Rattle.model.specs.Layout.{Copy, copyOf}
 use Rattle.model.specs.Groups.{Write, write, last, among, twice, members, payloadOf, remaining, writes, nth, writeAt, isLastWrite, overlaps}
 use Rattle.model.specs.Refusals.{Job, cold, ready, writing, recovering, grouping, isCold}

@@ -8,7 +8,7 @@ use native.Mathlib.Nat.{div-add-mod', div-lt-iff-lt-mul}
 use lib.Dec.{eqb, ltb}
 use lib.ListN.{length, getD, take, drop, replicate}
 use lib.Seq.{getD-drop}
-use borrow.Author.Tests.{ltb-false, eqb-true, eq-eqb, lt-leb, not-false}
+use borrow.Author.Tests.{ltb-false, eqb-true, not-false}
 use Rattle.model.specs.declared.Plan.{Plan}
 use Rattle.model.specs.Marker.{OK}
 use Rattle.model.specs.Layout.{copyA, byte, place, copyOf}
@@ -16,7 +16,7 @@ use Rattle.model.specs.Demands.{lowestFirst, held}
 use Rattle.model.specs.Plans.{width}
 use Rattle.model.specs.Turns.{amount, inBytes, plus}
 use Rattle.model.specs.Groups.{isRecord}
-use Rattle.model.specs.Refusals.{ready, isReady, View, deviceRow, beginNumber, rideNumber, _when_}
+use Rattle.model.specs.Refusals.{ready, isReady, View, deviceRow, rideNumber, _when_}
 use Rattle.model.proofs.RefusalLaws.{PlanOk, count-bounds, ready-only, past, first-past, first-from, Alike, Began}
 
 pub bytes-size : (n v : ℕ) → length (inBytes n v) ≡ n

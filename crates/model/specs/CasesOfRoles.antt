@@ -7,14 +7,13 @@ use mathlib.Core.List.{List, [], _∷_, _++_, map}
 use lib.ListN.{replicate}
 use Rattle.model.specs.declared.Phase.{Phase}
 use Rattle.model.specs.declared.Phase.the-variants.{Cold, Ready}
-use Rattle.model.specs.declared.Plan.{Plan}
 use Rattle.model.specs.declared.Rights.{Rights}
 use Rattle.model.specs.declared.Role.{Role}
 use Rattle.model.specs.declared.Role.the-variants.{Rider, Gym, Service}
 use Rattle.model.specs.Refusals.{readNumber, totalNumber, beginNumber}
 use Rattle.model.specs.Calls.{Device, view, zeroPayload}
 use Rattle.model.specs.Calls as calls
-use Rattle.model.specs.Ledger.{Call, begin, opening, tells}
+use Rattle.model.specs.Ledger.{begin, opening, tells}
 
 -- eight units one byte wide. 3 and 255 are no right.
 abbrev rights : Rights

@@ -4,9 +4,8 @@ use mathlib.Core.Path.{refl, sym, ap, _∙_}
 use mathlib.Core.Bool.{not}
 use lib.ListN.{length}
 use denote.Ref.{now}
-use borrow.Author.Tests.{le-leb, lt-leb, eq-eqb, ne-eqb}
+use borrow.Author.Tests.{le-leb, lt-leb}
 use Rattle.lookup.proofs.Laws.{room}
-use Rattle.model.specs.Layout.{width}
 use Rattle.model.specs.Refusals.{readNumber}
 use Rattle.model.proofs.RefusalLaws.{first-stop, first-skip}
 use Rattle.refusal.proofs.Laws.{phase-refused, phase-passed, live}

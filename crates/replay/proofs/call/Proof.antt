@@ -1,5 +1,4 @@
 -- `replay::call` meets its contract: by the kind.
-use native.Mathlib.Omega.{arith}
 use borrow.Author.Tests.{eq-eqb, ne-eqb}
 use Rattle.model.specs.PowerCut.{call}
 use Rattle.recovery.specs.Encoding.{callOf}

@@ -1,5 +1,4 @@
 -- `rights::line_of` meets its contract: by the role.
-use mathlib.Core.Path.{refl}
 use borrow.Author.Needs.{needs}
 use Rattle.rights.proofs.line_of.Statement.{statement}
 use Rattle.rights.proofs.line_of.Tie as tie

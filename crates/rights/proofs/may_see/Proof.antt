@@ -1,5 +1,4 @@
 -- `rights::may_see` meets its contract.
-use native.Mathlib.Omega.{arith}
 use mathlib.Core.Path.{ap}
 use mathlib.Core.Bool.{_||_}
 use lib.Dec.{eqb}
@@ -8,7 +7,6 @@ use Rattle.model.specs.Rights.{SEE, SEE-AND-WRITE, maySee, mayWrite}
 use borrow.Author.Needs.{needs}
 use Rattle.rights.proofs.may_see.Statement.{statement}
 use Rattle.rights.proofs.may_see.Tie as tie
-use Rattle.rights.proofs.right_of.Reads as right-of-reads
 
 right-of-requires : tie.Need-right-of-requires
 right-of-requires c κs = search needs

@@ -1,5 +1,4 @@
 -- `rights::may_write` meets its contract.
-use native.Mathlib.Omega.{arith}
 use mathlib.Core.Path.{ap}
 use lib.Dec.{eqb}
 use Prim.Native.Nat.{ℕ}
@@ -7,7 +6,6 @@ use Rattle.model.specs.Rights.{SEE-AND-WRITE, mayWrite}
 use borrow.Author.Needs.{needs}
 use Rattle.rights.proofs.may_write.Statement.{statement}
 use Rattle.rights.proofs.may_write.Tie as tie
-use Rattle.rights.proofs.right_of.Reads as right-of-reads
 
 right-of-requires : tie.Need-right-of-requires
 right-of-requires c κs = search needs

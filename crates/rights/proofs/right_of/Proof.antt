@@ -4,11 +4,10 @@ use lib.ListN.{length, getD, List·getD-eq-default}
 use mathlib.Core.Path.{_≡_, sym, ap, _∙_}
 use mathlib.Core.List.{List}
 use Prim.Native.Nat.{ℕ}
-use Rattle.model.specs.Rights.{line, right}
+use Rattle.model.specs.Rights.{right}
 use borrow.Author.Needs.{needs}
 use Rattle.rights.proofs.right_of.Statement.{statement}
 use Rattle.rights.proofs.right_of.Tie as tie
-use Rattle.rights.proofs.line_of.Reads as line-of-reads
 
 line-of-requires : tie.Need-line-of-requires
 line-of-requires c κs = search needs
