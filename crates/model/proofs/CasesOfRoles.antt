@@ -1,11 +1,13 @@
 -- The definitions give every row of specs/CasesOfRoles.antt.
 use mathlib.Core.Path.{refl}
+use Rattle.model.specs.declared.Role.{Role}
+use Rattle.model.specs.declared.Role.the-variants.{Rider, Gym, Service}
 use Rattle.model.specs.Rights.{right, mayWrite, maySee}
 use Rattle.model.specs.Layout.{wholePages, base, get, copyOf}
 use Rattle.model.specs.Refusals.{badCount, badWidths, badPage, badJob, first, readNumber, beginNumber, totalNumber}
 use Rattle.model.specs.Calls as calls
 use Rattle.model.specs.Ledger.{opening, markerOf, told, accepted, fed, tells}
-use Rattle.model.specs.CasesOfRoles.{EveryRight, EveryOrder, EveryTold, EveryShown}
+use Rattle.model.specs.CasesOfRoles.{EveryRight, EveryValue, EveryOrder, EveryTold, EveryShown}
 
 pub every-right : EveryRight
 unfolding wholePages base get badCount badWidths badPage badJob first readNumber beginNumber right mayWrite maySee
@@ -24,6 +26,12 @@ every-right =
       beginTornGym = refl;
       beginTornService = refl;
     }
+
+pub every-value : (role : Role) → EveryValue role
+unfolding wholePages base get badCount badWidths badPage badJob first readNumber beginNumber right mayWrite maySee
+every-value Rider = record { nothing = refl; see = refl; seeAndWrite = refl; three = refl; largest = refl }
+every-value Gym = record { nothing = refl; see = refl; seeAndWrite = refl; three = refl; largest = refl }
+every-value Service = record { nothing = refl; see = refl; seeAndWrite = refl; three = refl; largest = refl }
 
 pub every-order : EveryOrder
 unfolding wholePages base get badCount badWidths badPage badJob first readNumber totalNumber beginNumber right mayWrite maySee

@@ -4,7 +4,7 @@ use Prim.Native.Nat.{ℕ, _+_}
 use mathlib.Core.Path.{_≡_}
 use mathlib.Core.Bool.{Bool, true, false}
 use mathlib.Core.List.{List, [], _∷_, _++_, map}
-use lib.ListN.{replicate}
+use lib.ListN.{take, replicate}
 use Rattle.model.specs.declared.Phase.{Phase}
 use Rattle.model.specs.declared.Phase.the-variants.{Cold, Ready}
 use Rattle.model.specs.declared.Rights.{Rights}
@@ -24,14 +24,17 @@ rights =
       service = 1 ∷ 2 ∷ 0 ∷ 0 ∷ 2 ∷ 1 ∷ 2 ∷ 0 ∷ [];
     }
 
-abbrev device : Bool → Phase → Device
-device grouped phase =
+abbrev deviceWith : Rights → Bool → Phase → Device
+deviceWith table grouped phase =
     record {
-      plan = record { count = 8; widths = replicate 8 1; page = 1; grouped = grouped; rights = rights };
+      plan = record { count = 8; widths = replicate 8 1; page = 1; grouped = grouped; rights = table };
       payload = zeroPayload;
       phase = phase;
       stores = 0;
     }
+
+abbrev device : Bool → Phase → Device
+device = deviceWith rights
 
 -- all eight units with this marker
 abbrev pub marked : ℕ → List ℕ
@@ -63,6 +66,29 @@ pub record EveryRight : Type 0 where
   pub beginTornRider : beginsOf 2 Rider ≡ 22 ∷ 22 ∷ 8 ∷ 22 ∷ 22 ∷ 8 ∷ 22 ∷ 22 ∷ 6 ∷ []
   pub beginTornGym : beginsOf 2 Gym ≡ 8 ∷ 22 ∷ 22 ∷ 8 ∷ 22 ∷ 22 ∷ 22 ∷ 8 ∷ 6 ∷ []
   pub beginTornService : beginsOf 2 Service ≡ 22 ∷ 8 ∷ 22 ∷ 22 ∷ 8 ∷ 22 ∷ 8 ∷ 22 ∷ 6 ∷ []
+
+-- ---- each value for each role and unit: the role's line is all v, the two others all w
+abbrev only : Role → ℕ → ℕ → Rights
+only Rider v w = record { rider = replicate 8 v; gym = replicate 8 w; service = replicate 8 w }
+only Gym v w = record { rider = replicate 8 w; gym = replicate 8 v; service = replicate 8 w }
+only Service v w = record { rider = replicate 8 w; gym = replicate 8 w; service = replicate 8 v }
+
+-- the numbers of eight reads, and of eight begins
+abbrev valued : Role → ℕ → ℕ → List ℕ
+valued role v w =
+    map (λ (u : ℕ). readNumber (view (deviceWith (only role v w) false Ready) (marked 1)) role u) (take 8 units)
+    ++ map (λ (u : ℕ). beginNumber (view (deviceWith (only role v w) false Ready) (marked 1)) role u 1) (take 8 units)
+
+abbrev each : ℕ → ℕ → List ℕ
+each read begun = replicate 8 read ++ replicate 8 begun
+
+pub record EveryValue (role : Role) : Type 0 where
+  pub nothing : valued role 0 2 ≡ each 22 22
+  pub see : valued role 1 2 ≡ each 0 22
+  pub seeAndWrite : valued role 2 0 ≡ each 0 0
+  -- what is none of the three
+  pub three : valued role 3 2 ≡ each 22 22
+  pub largest : valued role 255 2 ≡ each 22 22
 
 -- ---- the order: read 5, 6, 22, 8; a total 5, 6, 22, 8, 16; begin 5, 6, 20, 22, 7, 8
 abbrev read : Phase → ℕ → Role → ℕ → ℕ
