@@ -17,15 +17,15 @@ module _ (count made : ℕ) (d : Device) (image : List ℕ) where
     number : (step d image).number ≡ k
     number = ap (λ (o : Outcome). o.number) (sym is)
 
-    pub row-stops : ¬ (k ≡ 0) → steps (count - made) d image ≡ outcome k d' image'
+    pub row_stops : ¬ (k ≡ 0) → steps (count - made) d image ≡ outcome k d' image'
     unfolding steps
-    row-stops h =
+    row_stops h =
         let n : count - made ≡ suc (count - (made + 1)) = omega arith in
         rw n (simp (ne_eqb _ _ (λ z. h (sym number ∙ z)))) ∙ sym is
 
-    pub row-goes-on : k ≡ 0 → steps (count - made) d image ≡ steps (count - (made + 1)) d' image'
+    pub row_goes_on : k ≡ 0 → steps (count - made) d image ≡ steps (count - (made + 1)) d' image'
     unfolding steps
-    row-goes-on z =
+    row_goes_on z =
         let n : count - made ≡ suc (count - (made + 1)) = omega arith in
         rw n (simp (eq-eqb _ _ (number ∙ z)))
         ∙ ap (λ (o : Outcome). steps (count - (made + 1)) o.device o.image) (sym is)

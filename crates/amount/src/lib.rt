@@ -1,6 +1,6 @@
 // Amounts as bytes, lowest byte first: the totals that a unit holds.
 ghost use Rattle.std.specs.Prelude.{◌≡◌, length};
-ghost use Rattle.model.specs.Turns.{amount, inBytes};
+ghost use Rattle.model.specs.Turns.{amount, in_bytes};
 
 // The number that eight bytes hold.
 pub fn amount_of(bytes: &[u8]) -> u64
@@ -18,7 +18,7 @@ pub fn amount_of(bytes: &[u8]) -> u64
 
 // The eight bytes that hold a number.
 pub fn bytes_of(value: u64) -> [u8; 8]
-    ensures { result ≡ inBytes 8 value }
+    ensures { result ≡ in_bytes 8 value }
 {
     let mut bytes = [0u8; 8];
     let mut rest = value;

@@ -6,26 +6,26 @@ use mathlib.Core.Bool.{Bool, true, false, cond, ◌||◌}
 use lib.Dec.{eqb, ltb}
 use borrow.Author.Tests.{eqb-false, ltb-false, ne_eqb, le-ltb}
 use Rattle.model.specs.Refusals.{first}
-use Rattle.model.specs.Drive.{driveRule, driveNumber, drive}
+use Rattle.model.specs.Drive.{drive_rule, drive_number, drive}
 use Rattle.brake.specs.Promises.{InRange}
 
-pub accepts : (l r : ℕ) → 0 < l → l ≤ 20 → r ≤ 255 → driveNumber l r ≡ 0
-unfolding driveNumber first
+pub accepts : (l r : ℕ) → 0 < l → l ≤ 20 → r ≤ 255 → drive_number l r ≡ 0
+unfolding drive_number first
 accepts l r low high rate = simp (ne_eqb l 0 (λ e. omega arith), le-ltb 20 l high, le-ltb 255 r rate)
 
-none-refuses : (a b c : Bool) → ◌≡◌ {A = ℕ} (cond (a || b) 9 (cond c 10 0)) 0 → (a ≡ false) × (b ≡ false) × (c ≡ false)
-none-refuses true b c e = absurd (omega arith)
-none-refuses false true c e = absurd (omega arith)
-none-refuses false false true e = absurd (omega arith)
-none-refuses false false false e = (refl, refl, refl)
+none_refuses : (a b c : Bool) → ◌≡◌ {A = ℕ} (cond (a || b) 9 (cond c 10 0)) 0 → (a ≡ false) × (b ≡ false) × (c ≡ false)
+none_refuses true b c e = absurd (omega arith)
+none_refuses false true c e = absurd (omega arith)
+none_refuses false false true e = absurd (omega arith)
+none_refuses false false false e = (refl, refl, refl)
 
-pub in-range : (l r : ℕ) → driveNumber l r ≡ 0 → InRange l r
-unfolding driveNumber first
-in-range l r accepted =
-    let passed = none-refuses (eqb l 0) (ltb 20 l) (ltb 255 r) accepted in
+pub in_range : (l r : ℕ) → drive_number l r ≡ 0 → InRange l r
+unfolding drive_number first
+in_range l r accepted =
+    let passed = none_refuses (eqb l 0) (ltb 20 l) (ltb 255 r) accepted in
     let not-zero = eqb-false l 0 passed.0 in
     record { above = omega arith; level = ltb-false 20 l passed.1; rate = ltb-false 255 r passed.2 }
 
-pub by-rule : (l r : ℕ) → driveNumber l r ≡ 0 → drive l r ≡ driveRule l (r / 4)
+pub by_rule : (l r : ℕ) → drive_number l r ≡ 0 → drive l r ≡ drive_rule l (r / 4)
 unfolding drive
-by-rule l r accepted = rw accepted
+by_rule l r accepted = rw accepted

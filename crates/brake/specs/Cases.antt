@@ -1,7 +1,7 @@
 -- Numbers and drives over a lent table, computed from the definitions in proofs/Cases.antt:
 -- whatever a later row mends is wrong in those before it.
 use Rattle.std.specs.Prelude.{ℕ, ◌≡◌, List, [], ◌∷◌, map, replicate}
-use Rattle.brake.specs.Over.{driveOverNumber, driveOver}
+use Rattle.brake.specs.Over.{drive_over_number, drive_over}
 use Rattle.brake.specs.Table.{drives}
 
 pub record Row : Type 0 where
@@ -43,5 +43,5 @@ rows =
 
 abbrev pub EveryRow : Type 0
 EveryRow =
-    map {A = Row} {B = ℕ × ℕ} (λ x. (driveOverNumber x.table x.level x.rate, driveOver x.table x.level x.rate)) rows
+    map {A = Row} {B = ℕ × ℕ} (λ x. (drive_over_number x.table x.level x.rate, drive_over x.table x.level x.rate)) rows
     ≡ map {A = Row} {B = ℕ × ℕ} (λ x. (x.number, x.drive)) rows

@@ -1,8 +1,8 @@
 // The brake's drive, by one look-up. Document 01, 'Brake drive': "Drive = 100 + 160 × l + floor(l × c / 2), in steps of a
 // 12-bit converter." The rule itself stands in the model's specs/Drive.antt.
 ghost use Rattle.std.specs.Prelude.{◌≡◌, ◌+◌, ◌*◌, ◌-◌, ◌/◌};
-ghost use Rattle.model.specs.Drive.{driveNumber, drive};
-ghost use Rattle.brake.specs.Over.{driveOverNumber, driveOver, Answers};
+ghost use Rattle.model.specs.Drive.{drive_number, drive};
+ghost use Rattle.brake.specs.Over.{drive_over_number, drive_over, Answers};
 ghost use Rattle.brake.specs.Promises.{InRange};
 
 use model::refusals::{BAD_LEVEL, BAD_RATE, NO_ROOM};
@@ -106,7 +106,7 @@ fn place(level: u16, rate: u16) -> usize
 
 // "9 level 0 or above 20; 10 rate above 255": the lowest number that applies is given, so the level is looked at first.
 fn refusal(level: u16, rate: u16) -> u16
-    ensures { result ≡ driveNumber level rate }
+    ensures { result ≡ drive_number level rate }
 {
     if level == 0 || 20 < level {
         return BAD_LEVEL;
@@ -119,7 +119,7 @@ fn refusal(level: u16, rate: u16) -> u16
 
 // The drive over the constant table.
 pub fn drive(level: u16, rate: u16) -> Driven
-    ensures { Answers result (driveNumber level rate) (drive level rate) }
+    ensures { Answers result (drive_number level rate) (drive level rate) }
 {
     let number = refusal(level, rate);
     if number != 0 {
@@ -138,7 +138,7 @@ pub fn drive(level: u16, rate: u16) -> Driven
 
 // The drive over a lent table of 1,280 entries, such as a bike maker's curve. Refused: 11, 9, 10, in this order.
 pub fn drive_over(table: &[u16], level: u16, rate: u16) -> Driven
-    ensures { Answers result (driveOverNumber table.now level rate) (driveOver table.now level rate) }
+    ensures { Answers result (drive_over_number table.now level rate) (drive_over table.now level rate) }
 {
     if table.len() != 1280 {
         return Driven {

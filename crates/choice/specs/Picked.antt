@@ -7,8 +7,8 @@ use Rattle.choice.specs.declared.Choice.{Choice}
 use Rattle.model.specs.declared.Direction.{Direction}
 use Rattle.model.specs.declared.Plan.{Plan}
 use Rattle.model.specs.Layout.{Cell, offset}
-use Rattle.model.specs.Refusals.{writeTotal, cleanupTotal}
-use Rattle.model.specs.Stores.{Store, store, writeStores, cleanupStores}
+use Rattle.model.specs.Refusals.{write_total, cleanup_total}
+use Rattle.model.specs.Stores.{Store, store, write_stores, cleanup_stores}
 use Rattle.lookup.specs.declared.Span.{Span}
 use Rattle.lookup.specs.Spans.{span_of}
 
@@ -31,7 +31,7 @@ pub record Picked (span : Span) (f : ℕ → ℕ) (made : ℕ) (o : Plan → ℕ
   pub store : ¬ (r.left ≡ 0) → (p : Plan) (u : ℕ) → span ≡ span_of p u → At p u (o p u) r.at r.byte
 
 abbrev pub Writes : Span → List ℕ → ℕ → Choice → Type 0
-Writes span payload made r = Picked span writeTotal made (λ p u. get_elem? (writeStores p u payload) made) r
+Writes span payload made r = Picked span write_total made (λ p u. get_elem? (write_stores p u payload) made) r
 
 abbrev pub Cleans : Span → List ℕ → Direction → ℕ → Choice → Type 0
-Cleans span image d made r = Picked span cleanupTotal made (λ p u. get_elem? (cleanupStores p image u d) made) r
+Cleans span image d made r = Picked span cleanup_total made (λ p u. get_elem? (cleanup_stores p image u d) made) r

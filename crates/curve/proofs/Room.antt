@@ -8,84 +8,84 @@ use lib.Dec.{eqb, ltb}
 use lib.ListN.{length}
 use borrow.Author.Tests.{eq-eqb, ne_eqb, lt-ltb, le-ltb}
 use Rattle.model.proofs.Compare.{equal, differ, same}
-use Rattle.row.specs.Row.{lineNumber}
-use Rattle.row.proofs.Line.{line-never-11}
-use Rattle.curve.specs.Curve.{curve, lines_from, curveOf, badRoom, loadNumber, loaded, largeNumber, largeLoaded}
+use Rattle.row.specs.Row.{line_number}
+use Rattle.row.proofs.Line.{line_never_11}
+use Rattle.curve.specs.Curve.{curve, lines_from, curve_of, bad_room, load_number, loaded, large_number, large_loaded}
 use Rattle.curve.specs.Promises.{RefusedLeavesTheTable, RoomFor1280, SpareScratch, SmallAsLarge}
 
 -- ---- the room
 module _ (text : List ℕ) (table scratch : ℕ) where
-  no_room : badRoom table scratch ≡ true → loadNumber text table scratch ≡ 11
-  unfolding loadNumber
-  no_room e = rw e
+  no_room_lem : bad_room table scratch ≡ true → load_number text table scratch ≡ 11
+  unfolding load_number
+  no_room_lem e = rw e
 
-  pub other-table : ¬ (table ≡ 1280) → loadNumber text table scratch ≡ 11
-  other-table h = no_room (rw (ne_eqb table 1280 h))
+  pub other_table_lem : ¬ (table ≡ 1280) → load_number text table scratch ≡ 11
+  other_table_lem h = no_room_lem (rw (ne_eqb table 1280 h))
 
-  pub short-scratch : scratch < 64 → loadNumber text table scratch ≡ 11
-  short-scratch h = no_room (rw (lt-ltb scratch 64 h) (or-true (not (eqb table 1280))))
+  pub short_scratch_lem : scratch < 64 → load_number text table scratch ≡ 11
+  short_scratch_lem h = no_room_lem (rw (lt-ltb scratch 64 h) (or-true (not (eqb table 1280))))
 
-  pub by-text : table ≡ 1280 → 64 ≤ scratch → loadNumber text table scratch ≡ (curveOf text).number
-  unfolding loadNumber
-  by-text fits room = rw (eq-eqb table 1280 fits, le-ltb scratch 64 room)
+  pub by_text : table ≡ 1280 → 64 ≤ scratch → load_number text table scratch ≡ (curve_of text).number
+  unfolding load_number
+  by_text fits room = rw (eq-eqb table 1280 fits, le-ltb scratch 64 room)
 
 -- ---- no text gives 11
-lines-never-11 : (n : ℕ) (text : List ℕ) (at : ℕ) (done : List ℕ) → ¬ ((lines_from n text at done).number ≡ 11)
+lines_never_11 : (n : ℕ) (text : List ℕ) (at : ℕ) (done : List ℕ) → ¬ ((lines_from n text at done).number ≡ 11)
 unfolding lines_from
-lines-never-11 zero text at done e = ended (ltb at (length text)) e
+lines_never_11 zero text at done e = ended (ltb at (length text)) e
   where
     ended : (over : Bool) → ¬ ((cond over (curve 12 []) (curve 0 done)).number ≡ 11)
     ended true e = omega arith
     ended false e = omega arith
-lines-never-11 (suc n) text at done e =
-    elim (same (lineNumber (19 - n) text at done) 0) [
+lines_never_11 (suc n) text at done e =
+    elim (same (line_number (19 - n) text at done) 0) [
       | equal z ↦
-          lines-never-11 n text _ _ (rw (eq-eqb (lineNumber (19 - n) text at done) 0 z) at e)
+          lines_never_11 n text _ _ (rw (eq-eqb (line_number (19 - n) text at done) 0 z) at e)
       | differ h ↦
-          line-never-11 (19 - n) text at done (rw (ne_eqb (lineNumber (19 - n) text at done) 0 h) at e)
+          line_never_11 (19 - n) text at done (rw (ne_eqb (line_number (19 - n) text at done) 0 h) at e)
     ]
 
 -- ---- the promises
-pub refused-leaves-the-table : RefusedLeavesTheTable
+pub refused_leaves_the_table : RefusedLeavesTheTable
 unfolding loaded
-refused-leaves-the-table text table scratch h = rw (ne_eqb (loadNumber text (length table) scratch) 0 h)
+refused_leaves_the_table text table scratch h = rw (ne_eqb (load_number text (length table) scratch) 0 h)
 
-pub room-for-1280 : RoomFor1280
-room-for-1280 text table scratch =
+pub room_for_1280 : RoomFor1280
+room_for_1280 text table scratch =
     record {
-      otherTable = other-table text table scratch;
-      shortScratch = short-scratch text table scratch;
-      enough = λ fits room e. lines-never-11 20 text 0 [] (sym (by-text text table scratch fits room) ∙ e);
+      other_table = other_table_lem text table scratch;
+      short_scratch = short_scratch_lem text table scratch;
+      enough = λ fits room e. lines_never_11 20 text 0 [] (sym (by_text text table scratch fits room) ∙ e);
     }
 
-pub spare-scratch : SpareScratch
+pub spare_scratch : SpareScratch
 unfolding loaded
-spare-scratch text table scratch other room room' = (n, rw n)
+spare_scratch text table scratch other room room' = (n, rw n)
   where
-    n : loadNumber text (length table) scratch ≡ loadNumber text (length table) other
+    n : load_number text (length table) scratch ≡ load_number text (length table) other
     n =
         elim (same (length table) 1280) [
-          | equal fits ↦ by-text text (length table) scratch fits room ∙ sym (by-text text (length table) other fits room')
-          | differ h ↦ other-table text (length table) scratch h ∙ sym (other-table text (length table) other h)
+          | equal fits ↦ by_text text (length table) scratch fits room ∙ sym (by_text text (length table) other fits room')
+          | differ h ↦ other_table_lem text (length table) scratch h ∙ sym (other_table_lem text (length table) other h)
         ]
 
 -- ---- the 1,280-number loader
 module _ (text : List ℕ) (table large : ℕ) where
-  large-other : ¬ (table ≡ 1280) → largeNumber text table large ≡ 11
-  unfolding largeNumber
-  large-other h = rw (ne_eqb table 1280 h)
+  large_other : ¬ (table ≡ 1280) → large_number text table large ≡ 11
+  unfolding large_number
+  large_other h = rw (ne_eqb table 1280 h)
 
-  large-by-text : table ≡ 1280 → 1280 ≤ large → largeNumber text table large ≡ (curveOf text).number
-  unfolding largeNumber
-  large-by-text fits room = rw (eq-eqb table 1280 fits, le-ltb large 1280 room)
+  large_by_text : table ≡ 1280 → 1280 ≤ large → large_number text table large ≡ (curve_of text).number
+  unfolding large_number
+  large_by_text fits room = rw (eq-eqb table 1280 fits, le-ltb large 1280 room)
 
-pub small-as-large : SmallAsLarge
-unfolding loaded largeLoaded
-small-as-large text table scratch large room room' = (n, rw n)
+pub small_as_large : SmallAsLarge
+unfolding loaded large_loaded
+small_as_large text table scratch large room room' = (n, rw n)
   where
-    n : loadNumber text (length table) scratch ≡ largeNumber text (length table) large
+    n : load_number text (length table) scratch ≡ large_number text (length table) large
     n =
         elim (same (length table) 1280) [
-          | equal fits ↦ by-text text (length table) scratch fits room ∙ sym (large-by-text text (length table) large fits room')
-          | differ h ↦ other-table text (length table) scratch h ∙ sym (large-other text (length table) large h)
+          | equal fits ↦ by_text text (length table) scratch fits room ∙ sym (large_by_text text (length table) large fits room')
+          | differ h ↦ other_table_lem text (length table) scratch h ∙ sym (large_other text (length table) large h)
         ]

@@ -3,8 +3,8 @@
 use Rattle.std.specs.Prelude.{ℕ, zero, suc, ◌≡◌, List, [], ◌∷◌, ◌++◌, map, replicate}
 use Prim.Native.String.{String}
 use Rattle.token.specs.Ascii.{ascii}
-use Rattle.row.specs.Row.{lineNumber}
-use Rattle.curve.specs.Curve.{lines_from, loadNumber}
+use Rattle.row.specs.Row.{line_number}
+use Rattle.curve.specs.Curve.{lines_from, load_number}
 
 -- a text that begins with `before`, has n entries `0`, each with a space after it, and ends with `after`
 unfoldable pub zeros : ℕ → List ℕ
@@ -41,7 +41,7 @@ rows =
 
 abbrev pub EveryLine : Type 0
 EveryLine =
-    map {A = Row} {B = ℕ × ℕ} (λ row. (lineNumber 0 row.0 0 [], lineNumber 1 row.0 0 (replicate 64 0))) rows
+    map {A = Row} {B = ℕ × ℕ} (λ row. (line_number 0 row.0 0 [], line_number 1 row.0 0 (replicate 64 0))) rows
     ≡ map {A = Row} {B = ℕ × ℕ} (λ row. (row.1, row.2)) rows
 
 -- a text, the lengths of table and scratch, and the load's number: a table of 1,280 exactly, a scratch of 64 or more
@@ -72,7 +72,7 @@ loads =
 
 abbrev pub EveryRoom : Type 0
 EveryRoom =
-    map {A = Load} {B = ℕ} (λ load. loadNumber load.0 load.1 load.2) loads
+    map {A = Load} {B = ℕ} (λ load. load_number load.0 load.1 load.2) loads
     ≡ map {A = Load} {B = ℕ} (λ load. load.3) loads
 
 -- the last n lines of a text, after no entries, and their number: a line 21, and of 12 and 13 the earlier line

@@ -2,8 +2,8 @@
 -- What a line says, and its number, are in `crates/row/specs/Row.antt`.
 use Rattle.std.specs.Prelude.{ℕ, zero, suc, ◌+◌, ◌-◌, Bool, true, cond, not, ◌&&◌, ◌||◌, List, [], ◌++◌, eqb, ltb, length, take, drop}
 use Rattle.model.specs.Numbers.{NO-ROOM, BAD-LINE}
-use Rattle.token.specs.Lines.{lineEnd, line_at}
-use Rattle.row.specs.Row.{row_of, inRule, lineNumber}
+use Rattle.token.specs.Lines.{line_end, line_at}
+use Rattle.row.specs.Row.{row_of, in_rule, line_number}
 
 -- what a text comes to: its number, and its entries if that is 0
 pub record Curve : Type 0 where
@@ -18,40 +18,40 @@ curve number entries = record { number = number; entries = entries }
 unfoldable pub lines_from : ℕ → List ℕ → ℕ → List ℕ → Curve
 lines_from zero text at done = cond (ltb at (length text)) (curve BAD-LINE []) (curve 0 done)
 lines_from (suc n) text at done =
-    let number : ℕ = lineNumber (19 - n) text at done in
+    let number : ℕ = line_number (19 - n) text at done in
     cond (eqb number 0)
-    (lines_from n text (lineEnd text at + 1) (done ++ row_of (19 - n + 1) (line_at text at)))
+    (lines_from n text (line_end text at + 1) (done ++ row_of (19 - n + 1) (line_at text at)))
     (curve number [])
 
-abbrev pub curveOf : List ℕ → Curve
-curveOf text = lines_from 20 text 0 []
+abbrev pub curve_of : List ℕ → Curve
+curve_of text = lines_from 20 text 0 []
 
 -- "The constant table passes the check": the rules over n levels of a table, and over a whole one
-unfoldable pub levelsGood : ℕ → List ℕ → List ℕ → Bool
-levelsGood zero lower table = true
-levelsGood (suc n) lower table = inRule 0 lower (take 64 table) && levelsGood n (take 64 table) (drop 64 table)
+unfoldable pub levels_good : ℕ → List ℕ → List ℕ → Bool
+levels_good zero lower table = true
+levels_good (suc n) lower table = in_rule 0 lower (take 64 table) && levels_good n (take 64 table) (drop 64 table)
 
 abbrev pub passes : List ℕ → Bool
-passes table = eqb (length table) 1280 && levelsGood 20 [] table
+passes table = eqb (length table) 1280 && levels_good 20 [] table
 
 -- "11 for a table that isn't 1,280 long or a scratch that is shorter, tested first", and since Ticket 8, 'Curve loading in a small
 -- buffer': "a scratch under 64 now counts as too short under 11"
-abbrev pub badRoom : ℕ → ℕ → Bool
-badRoom table scratch = not (eqb table 1280) || ltb scratch 64
+abbrev pub bad_room : ℕ → ℕ → Bool
+bad_room table scratch = not (eqb table 1280) || ltb scratch 64
 
-unfoldable pub loadNumber : List ℕ → ℕ → ℕ → ℕ
-loadNumber text table scratch = cond (badRoom table scratch) NO-ROOM (curveOf text).number
+unfoldable pub load_number : List ℕ → ℕ → ℕ → ℕ
+load_number text table scratch = cond (bad_room table scratch) NO-ROOM (curve_of text).number
 
 -- "It goes into the lent table .. only if all of it is good; a refusal leaves the table as it was"
 unfoldable pub loaded : List ℕ → List ℕ → ℕ → List ℕ
-loaded text table scratch = cond (eqb (loadNumber text (length table) scratch) 0) (curveOf text).entries table
+loaded text table scratch = cond (eqb (load_number text (length table) scratch) 0) (curve_of text).entries table
 
 -- ---- "the 1,280-number loader" of Ticket 8, as Ticket 1 asked for it: for the comparison in Promises.antt alone
-abbrev largeBadRoom : ℕ → ℕ → Bool
-largeBadRoom table scratch = not (eqb table 1280) || ltb scratch 1280
+abbrev large_bad_room : ℕ → ℕ → Bool
+large_bad_room table scratch = not (eqb table 1280) || ltb scratch 1280
 
-unfoldable pub largeNumber : List ℕ → ℕ → ℕ → ℕ
-largeNumber text table scratch = cond (largeBadRoom table scratch) NO-ROOM (curveOf text).number
+unfoldable pub large_number : List ℕ → ℕ → ℕ → ℕ
+large_number text table scratch = cond (large_bad_room table scratch) NO-ROOM (curve_of text).number
 
-unfoldable pub largeLoaded : List ℕ → List ℕ → ℕ → List ℕ
-largeLoaded text table scratch = cond (eqb (largeNumber text (length table) scratch) 0) (curveOf text).entries table
+unfoldable pub large_loaded : List ℕ → List ℕ → ℕ → List ℕ
+large_loaded text table scratch = cond (eqb (large_number text (length table) scratch) 0) (curve_of text).entries table

@@ -2,10 +2,10 @@
 -- the drive over a table that passes the check. It is proved in proofs/Room.antt, Passes.antt and Rider.antt.
 use Rattle.std.specs.Prelude.{ℕ, ◌+◌, ◌≤◌, ◌<◌, ◌≡◌, true, List, length}
 use Rattle.model.specs.Numbers.{NO-ROOM}
-use Rattle.model.specs.Drive.{driveNumber}
-use Rattle.brake.specs.Over.{driveOver}
+use Rattle.model.specs.Drive.{drive_number}
+use Rattle.brake.specs.Over.{drive_over}
 use Rattle.brake.specs.Table.{drives}
-use Rattle.curve.specs.Curve.{passes, loadNumber, loaded, largeNumber, largeLoaded}
+use Rattle.curve.specs.Curve.{passes, load_number, loaded, large_number, large_loaded}
 
 -- ---- Loading. A scratch counts by its length alone.
 
@@ -13,15 +13,15 @@ use Rattle.curve.specs.Curve.{passes, loadNumber, loaded, largeNumber, largeLoad
 abbrev pub RefusedLeavesTheTable : Type 0
 RefusedLeavesTheTable =
     (text table : List ℕ) (scratch : ℕ)
-    → ¬ (loadNumber text (length table) scratch ≡ 0)
+    → ¬ (load_number text (length table) scratch ≡ 0)
     → loaded text table scratch ≡ table
 
 -- "11 for a table that isn't 1,280 long ..", "a scratch under 64 now counts as too short under 11": for every text, and for nothing
 -- else
 pub record Room (text : List ℕ) (table scratch : ℕ) : Type 0 where
-  pub otherTable : ¬ (table ≡ 1280) → loadNumber text table scratch ≡ NO-ROOM
-  pub shortScratch : scratch < 64 → loadNumber text table scratch ≡ NO-ROOM
-  pub enough : table ≡ 1280 → 64 ≤ scratch → ¬ (loadNumber text table scratch ≡ NO-ROOM)
+  pub other_table : ¬ (table ≡ 1280) → load_number text table scratch ≡ NO-ROOM
+  pub short_scratch : scratch < 64 → load_number text table scratch ≡ NO-ROOM
+  pub enough : table ≡ 1280 → 64 ≤ scratch → ¬ (load_number text table scratch ≡ NO-ROOM)
 
 abbrev pub RoomFor1280 : Type 0
 RoomFor1280 = (text : List ℕ) (table scratch : ℕ) → Room text table scratch
@@ -32,7 +32,7 @@ SpareScratch =
     (text table : List ℕ) (scratch other : ℕ)
     → 64 ≤ scratch
     → 64 ≤ other
-    → (loadNumber text (length table) scratch ≡ loadNumber text (length table) other)
+    → (load_number text (length table) scratch ≡ load_number text (length table) other)
     × (loaded text table scratch ≡ loaded text table other)
 
 -- Ticket 8: "For each text and table the refusal and the table afterwards equal those of the 1,280-number loader."
@@ -41,14 +41,14 @@ SmallAsLarge =
     (text table : List ℕ) (scratch large : ℕ)
     → 64 ≤ scratch
     → 1280 ≤ large
-    → (loadNumber text (length table) scratch ≡ largeNumber text (length table) large)
-    × (loaded text table scratch ≡ largeLoaded text table large)
+    → (load_number text (length table) scratch ≡ large_number text (length table) large)
+    × (loaded text table scratch ≡ large_loaded text table large)
 
 -- "It goes into the lent table .. only if all of it is good": the table after a load that is accepted passes the check
 abbrev pub LoadPasses : Type 0
 LoadPasses =
     (text table : List ℕ) (scratch : ℕ)
-    → loadNumber text (length table) scratch ≡ 0
+    → load_number text (length table) scratch ≡ 0
     → passes (loaded text table scratch) ≡ true
 
 -- "The constant table passes the check."
@@ -61,19 +61,19 @@ ConstantPasses = passes drives ≡ true
 abbrev pub DrivesFit : Type 0
 DrivesFit =
     (table : List ℕ) → passes table ≡ true
-    → (l r : ℕ) → driveNumber l r ≡ 0
-    → driveOver table l r ≤ 4095
+    → (l r : ℕ) → drive_number l r ≡ 0
+    → drive_over table l r ≤ 4095
 
 -- "no line ever falls": a faster wheel never meets a weaker brake
 abbrev pub Faster : Type 0
 Faster =
     (table : List ℕ) → passes table ≡ true
-    → (l r r' : ℕ) → driveNumber l r ≡ 0 → driveNumber l r' ≡ 0 → r ≤ r'
-    → driveOver table l r ≤ driveOver table l r'
+    → (l r r' : ℕ) → drive_number l r ≡ 0 → drive_number l r' ≡ 0 → r ≤ r'
+    → drive_over table l r ≤ drive_over table l r'
 
 -- "each entry is above the same bin one level lower": a level more brakes harder, at every rate
 abbrev pub Harder : Type 0
 Harder =
     (table : List ℕ) → passes table ≡ true
-    → (l r : ℕ) → driveNumber l r ≡ 0 → driveNumber (l + 1) r ≡ 0
-    → driveOver table l r < driveOver table (l + 1) r
+    → (l r : ℕ) → drive_number l r ≡ 0 → drive_number (l + 1) r ≡ 0
+    → drive_over table l r < drive_over table (l + 1) r

@@ -1,7 +1,7 @@
 // Brake curves from the bike maker: a text of 20 levels by 64 entries is judged in a lent scratch that holds one row, and is read
 // again into the lent table once all of it is known to be good. The contracts are equations with specs/Curve.antt.
 ghost use Rattle.std.specs.Prelude.{◌≡◌, ◌≤◌, length};
-ghost use Rattle.curve.specs.Curve.{curveOf, loadNumber, loaded};
+ghost use Rattle.curve.specs.Curve.{curve_of, load_number, loaded};
 
 use model::refusals::{BAD_LINE, NO_ROOM};
 use row::{line_check, line_into};
@@ -9,7 +9,7 @@ use row::{line_check, line_into};
 // Judges all lines: 0, or the first line's number that has one. A line 21 is 12.
 fn check_lines(text: &[u8], scratch: &mut [u16]) -> u16
     requires { 64 ≤ length scratch.old }
-    ensures { (result ≡ (curveOf text.now).number)
+    ensures { (result ≡ (curve_of text.now).number)
         × (length scratch.new ≡ length scratch.old) }
 {
     let mut at: usize = 0;
@@ -28,8 +28,8 @@ fn check_lines(text: &[u8], scratch: &mut [u16]) -> u16
 
 // Reads all lines of a text that is known to be good into the table.
 fn write_lines(text: &[u8], table: &mut [u16])
-    requires { (length table.old ≡ 1280) × ((curveOf text.now).number ≡ 0) }
-    ensures { (table.new ≡ (curveOf text.now).entries) × (length table.new ≡ 1280) }
+    requires { (length table.old ≡ 1280) × ((curve_of text.now).number ≡ 0) }
+    ensures { (table.new ≡ (curve_of text.now).entries) × (length table.new ≡ 1280) }
 {
     let mut at: usize = 0;
     let mut written: usize = 0;
@@ -41,7 +41,7 @@ fn write_lines(text: &[u8], table: &mut [u16])
 
 // Loads a curve's text into the table. 0, or why it is refused: 11, 12 or 13; the table is then as it was. The scratch is free.
 pub fn load(text: &[u8], table: &mut [u16], scratch: &mut [u16]) -> u16
-    ensures { (result ≡ loadNumber text.now (length table.old) (length scratch.old))
+    ensures { (result ≡ load_number text.now (length table.old) (length scratch.old))
         × (table.new ≡ loaded text.now table.old (length scratch.old))
         × (length table.new ≡ length table.old)
         × (length scratch.new ≡ length scratch.old) }

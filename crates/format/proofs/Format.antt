@@ -8,31 +8,31 @@ use lib.ListN.{length, take, drop, set, replicate, length-take, length-drop, rep
 use lib.Seq.{take-suc-set, take_at, drop_at, drop-drop}
 use Rattle.model.specs.declared.Plan.{Plan}
 use Rattle.model.specs.Marker.{OK}
-use Rattle.model.specs.Layout.{unitLength, base, fresh}
+use Rattle.model.specs.Layout.{unit_length, base, fresh}
 use Rattle.model.proofs.RefusalLaws.{PlanOk}
-use Rattle.model.proofs.LayoutLaws.{length-fresh}
+use Rattle.model.proofs.LayoutLaws.{length_fresh}
 
 pub zero_more : (xs : List ℕ) (i : ℕ) → i < length xs → take i xs ≡ replicate i 0
     → take (i + 1) (set xs i 0) ≡ replicate (i + 1) 0
 zero_more xs i h e =
     rw (add-one i) (take-suc-set xs i 0 h) ∙ ap (λ (t : List ℕ). t ++ (0 ∷ [])) e ∙ replicate-append-replicate i 1 0
 
-pub marker-first : (n : ℕ) → 0 < n → set {A = ℕ} (replicate n 0) 0 OK ≡ OK ∷ replicate (n - 1) 0
-marker-first zero h = absurd (omega arith)
-marker-first (suc n) h =
+pub marker_first : (n : ℕ) → 0 < n → set {A = ℕ} (replicate n 0) 0 OK ≡ OK ∷ replicate (n - 1) 0
+marker_first zero h = absurd (omega arith)
+marker_first (suc n) h =
     let e : suc n - 1 ≡ n = omega arith in
     rw e
 
 -- one more unit: ys is the span of unit u after it was formatted, b where it begins and l its length
-pub fresh-more : (p : Plan) → PlanOk p → (u b l : ℕ) (before image ys : List ℕ) → b ≡ base p u → l ≡ unitLength p u
+pub fresh_more : (p : Plan) → PlanOk p → (u b l : ℕ) (before image ys : List ℕ) → b ≡ base p u → l ≡ unit_length p u
     → b + l ≤ length image → image ≡ fresh p u ++ drop b before
     → ys ≡ OK ∷ replicate (length (take ((b + l) - b) (drop b image)) - 1) 0
     → take b image ++ (ys ++ drop ((b + l) - b) (drop b image)) ≡ fresh p (u + 1) ++ drop (b + l) before
 unfolding fresh
-fresh-more p ok u b l before image ys eb el room e f =
+fresh_more p ok u b l before image ys eb el room e f =
     let sub : (b + l) - b ≡ l = omega arith in
     let len : length (take l (drop b image)) ≡ l = simp (length-take, length-drop) (omega arith) in
-    let is : ys ≡ OK ∷ replicate (unitLength p u - 1) 0 = rw (sub, len, el) at f in
-    let long : length (fresh p u) ≡ b = length-fresh p ok u ∙ sym eb in
+    let is : ys ≡ OK ∷ replicate (unit_length p u - 1) 0 = rw (sub, len, el) at f in
+    let long : length (fresh p u) ≡ b = length_fresh p ok u ∙ sym eb in
     rw (sub, e, is, take_at (fresh p u) (drop b before) b long, drop_at (fresh p u) (drop b before) b long, drop-drop l b before, add-one u)
-    (sym (append_assoc (fresh p u) (OK ∷ replicate (unitLength p u - 1) 0) (drop (b + l) before)))
+    (sym (append_assoc (fresh p u) (OK ∷ replicate (unit_length p u - 1) 0) (drop (b + l) before)))

@@ -10,16 +10,16 @@ use lib.Seq.{drop-cons, drop-drop, take-append-le, drop-append-le, take-append_s
 use borrow.Author.Tests.{leb-true, lt-ltb, le-ltb, lt-leb, le-leb, eqb-true, eq-eqb, ne_eqb}
 use Rattle.model.specs.declared.Plan.{Plan}
 use Rattle.model.specs.Plans.{width}
-use Rattle.model.specs.Groups.{last, padded, splits, memberCount, unsplit, overlaps, narrow, payloadOf, alike, given}
+use Rattle.model.specs.Groups.{last, padded, splits, member_count, unsplit, overlaps, narrow, payload_of, alike, given}
 use Rattle.model.specs.Refusals.{◌when◌, first}
 use Rattle.model.proofs.Compare.{below, above, order}
-use Rattle.model.proofs.RefusalLaws.{and-true, or-false, first_past, first-stop, first-skip, first-none}
-use Rattle.model.proofs.GroupLaws.{given-says, given-fits, count-splits}
+use Rattle.model.proofs.RefusalLaws.{and_true, or_false, first_past, first_stop, first_skip, first_none}
+use Rattle.model.proofs.GroupLaws.{given_says, given_fits, count_splits}
 use Rattle.group.specs.Parts.{extent}
-use Rattle.group.proofs.Walk.{part-all}
+use Rattle.group.proofs.Walk.{part_all}
 
-ltb-suc : (m n : ℕ) → ltb m (suc n) ≡ leb m n
-ltb-suc m n =
+ltb_suc : (m n : ℕ) → ltb m (suc n) ≡ leb m n
+ltb_suc m n =
     elim (order n m) [
       | below l ↦ le-ltb m (suc n) l ∙ sym (lt-leb m n l)
       | above l ↦ lt-ltb m (suc n) (omega (arith, l)) ∙ sym (le-leb m n l)
@@ -36,81 +36,81 @@ refuted true h = absurd (h refl)
 refuted false h = refl
 
 -- n members and anything after them: the members are what they reach
-pub extent-exact : (p : Plan) (n : ℕ) (g z : List ℕ) → splits p n g ≡ true → extent p n (g ++ z) ≡ length g
+pub extent_exact : (p : Plan) (n : ℕ) (g z : List ℕ) → splits p n g ≡ true → extent p n (g ++ z) ≡ length g
 unfolding splits extent
-extent-exact p zero [] z e = refl
-extent-exact p zero (x ∷ g) z e = absurd (false≢true e)
-extent-exact p (suc n) [] z e = absurd (false≢true e)
-extent-exact p (suc n) (u ∷ g) z e =
+extent_exact p zero [] z e = refl
+extent_exact p zero (x ∷ g) z e = absurd (false≢true e)
+extent_exact p (suc n) [] z e = absurd (false≢true e)
+extent_exact p (suc n) (u ∷ g) z e =
     let w : ℕ = width p u in
-    let h = and-true (ltb u p.count && leb w (length g)) _ e in
-    let l : w ≤ length g = leb-true w (length g) (and-true (ltb u p.count) _ h.0).1 in
+    let h = and_true (ltb u p.count && leb w (length g)) _ e in
+    let l : w ≤ length g = leb-true w (length g) (and_true (ltb u p.count) _ h.0).1 in
     omega (
       arith,
       length-take w (g ++ z),
       length-append g z,
       ap (extent p n) (drop-append-le w g z l),
-      extent-exact p n (drop w g) z h.1,
+      extent_exact p n (drop w g) z h.1,
       length-drop w g,
     )
 
 -- ---- zeros
-zeros-alike : (xs : List ℕ) → alike (replicate (length xs) 0) xs ≡ true → xs ≡ replicate (length xs) 0
+zeros_alike : (xs : List ℕ) → alike (replicate (length xs) 0) xs ≡ true → xs ≡ replicate (length xs) 0
 unfolding alike
-zeros-alike [] e = refl
-zeros-alike (x ∷ xs) e =
-    let h = and-true (eqb 0 x) _ e in
-    ap₂ ◌∷◌ (sym (eqb-true 0 x h.0)) (zeros-alike xs h.1)
+zeros_alike [] e = refl
+zeros_alike (x ∷ xs) e =
+    let h = and_true (eqb 0 x) _ e in
+    ap₂ ◌∷◌ (sym (eqb-true 0 x h.0)) (zeros_alike xs h.1)
 
-alike-zeros : (xs : List ℕ) → xs ≡ replicate (length xs) 0 → alike (replicate (length xs) 0) xs ≡ true
+alike_zeros : (xs : List ℕ) → xs ≡ replicate (length xs) 0 → alike (replicate (length xs) 0) xs ≡ true
 unfolding alike
-alike-zeros xs e = ap (alike (replicate (length xs) 0)) e ∙ itself (length xs)
+alike_zeros xs e = ap (alike (replicate (length xs) 0)) e ∙ itself (length xs)
   where
     itself : (n : ℕ) → alike (replicate n 0) (replicate n 0) ≡ true
     itself zero = refl
     itself (suc n) = itself n
 
 -- the front of zeros
-front-zeros : (xs ys : List ℕ) (n : ℕ) → xs ++ ys ≡ replicate n 0 → xs ≡ replicate (length xs) 0
-front-zeros [] ys n e = refl
-front-zeros (x ∷ xs) ys zero e = absurd (omega (arith, ap length e))
-front-zeros (x ∷ xs) ys (suc n) e =
-    ap₂ ◌∷◌ (ap (λ (l : List ℕ). get_or l 0 0) e) (front-zeros xs ys n (ap (drop 1) e))
+front_zeros : (xs ys : List ℕ) (n : ℕ) → xs ++ ys ≡ replicate n 0 → xs ≡ replicate (length xs) 0
+front_zeros [] ys n e = refl
+front_zeros (x ∷ xs) ys zero e = absurd (omega (arith, ap length e))
+front_zeros (x ∷ xs) ys (suc n) e =
+    ap₂ ◌∷◌ (ap (λ (l : List ℕ). get_or l 0 0) e) (front_zeros xs ys n (ap (drop 1) e))
 
 -- ---- the bytes bs are a record: the count, the members g, and zeros
 pub record Standing (p : Plan) (bs : List ℕ) : Type 0 where
   pub g : List ℕ
   pub rest : List ℕ
-  pub is : bs ≡ memberCount p g ∷ (g ++ rest)
+  pub is : bs ≡ member_count p g ∷ (g ++ rest)
   pub zeros : rest ≡ replicate (length rest) 0
   pub parts : unsplit p g ≡ false
   pub apart : overlaps p g ≡ false
   pub wide : narrow p g ≡ false
 
-narrow-not : (p : Plan) (g : List ℕ) → p.grouped ≡ true → suc (length g) ≤ width p (last p) → narrow p g ≡ false
+narrow_not : (p : Plan) (g : List ℕ) → p.grouped ≡ true → suc (length g) ≤ width p (last p) → narrow p g ≡ false
 unfolding narrow
-narrow-not p g e h = or-false _ _ (ap not e) (le-ltb (width p (last p)) (suc (length g)) h)
+narrow_not p g e h = or_false _ _ (ap not e) (le-ltb (width p (last p)) (suc (length g)) h)
 
 module _ (p : Plan) (bs : List ℕ) (small : length bs ≤ 256) where
-  pub standing-given : Standing p bs → given p (padded bs) ≡ true
-  unfolding payloadOf
-  standing-given s =
-      let c : List ℕ = memberCount p s.g ∷ s.g in
+  pub standing_given : Standing p bs → given p (padded bs) ≡ true
+  unfolding payload_of
+  standing_given s =
+      let c : List ℕ = member_count p s.g ∷ s.g in
       let long : length bs ≡ suc (length s.g) + length s.rest = ap length s.is ∙ omega (arith, length-append s.g s.rest) in
       let tail : s.rest ++ replicate (256 - length bs) 0 ≡ replicate (256 - length c) 0 =
       ap (λ (l : List ℕ). l ++ replicate (256 - length bs) 0) s.zeros
       ∙ replicate-append-replicate {A = ℕ} (length s.rest) (256 - length bs) 0
       ∙ ap (λ (n : ℕ). replicate {A = ℕ} n 0) {x = length s.rest + (256 - length bs)} {y = 256 - length c} (omega arith) in
-      let same : padded bs ≡ payloadOf p s.g =
+      let same : padded bs ≡ payload_of p s.g =
       ap (λ (l : List ℕ). l ++ replicate (256 - length bs) 0) s.is
       ∙ append_assoc c s.rest _ ∙ ap (λ (l : List ℕ). c ++ l) tail in
-      ap (given p) same ∙ given-fits p s.g s.parts s.apart s.wide
+      ap (given p) same ∙ given_fits p s.g s.parts s.apart s.wide
 
-  pub given-standing : width p (last p) ≤ length bs → given p (padded bs) ≡ true → Standing p bs
-  unfolding payloadOf unsplit
-  given-standing room e =
-      let v = given-says p (padded bs) e in
-      let c : List ℕ = memberCount p v.g ∷ v.g in
+  pub given_standing : width p (last p) ≤ length bs → given p (padded bs) ≡ true → Standing p bs
+  unfolding payload_of unsplit
+  given_standing room e =
+      let v = given_says p (padded bs) e in
+      let c : List ℕ = member_count p v.g ∷ v.g in
       let k : ℕ = length c in
       let le : k ≤ length bs = omega (arith, v.wide) in
       let front : take k bs ≡ c =
@@ -121,10 +121,10 @@ module _ (p : Plan) (bs : List ℕ) (small : length bs ≤ 256) where
         g = v.g;
         rest = drop k bs;
         is = sym (take-append-drop k bs) ∙ ap (λ (l : List ℕ). l ++ drop k bs) front;
-        zeros = front-zeros (drop k bs) _ (256 - k) back;
-        parts = ne_eqb (memberCount p v.g) 0 v.some;
+        zeros = front_zeros (drop k bs) _ (256 - k) back;
+        parts = ne_eqb (member_count p v.g) 0 v.some;
         apart = v.apart;
-        wide = narrow-not p v.g v.grouped v.wide;
+        wide = narrow_not p v.g v.grouped v.wide;
       }
 
 -- ---- as the code finds them: xs are the bytes after the count
@@ -133,39 +133,39 @@ module _ (p : Plan) (bs xs : List ℕ) (xs-is : xs ≡ drop 1 bs) where
   reach = extent p (get_or bs 0 0) xs
 
   module _ (s : Standing p bs) where
-    pub count-is : get_or bs 0 0 ≡ memberCount p s.g
-    count-is = ap (λ (l : List ℕ). get_or l 0 0) s.is
+    pub count_is : get_or bs 0 0 ≡ member_count p s.g
+    count_is = ap (λ (l : List ℕ). get_or l 0 0) s.is
 
-    behind-is : xs ≡ s.g ++ s.rest
-    behind-is = xs-is ∙ ap (drop 1) s.is
+    behind_is : xs ≡ s.g ++ s.rest
+    behind_is = xs-is ∙ ap (drop 1) s.is
 
-    pub reach-is : reach ≡ length s.g
-    reach-is =
-        ap₂ (extent p) count-is behind-is
-        ∙ extent-exact p (memberCount p s.g) s.g s.rest (count-splits p s.g s.parts)
+    pub reach_is : reach ≡ length s.g
+    reach_is =
+        ap₂ (extent p) count_is behind_is
+        ∙ extent_exact p (member_count p s.g) s.g s.rest (count_splits p s.g s.parts)
 
-    pub group-is : take reach xs ≡ s.g
-    group-is = ap₂ take reach-is behind-is ∙ take-append_seam s.g s.rest
+    pub group_is : take reach xs ≡ s.g
+    group_is = ap₂ take reach_is behind_is ∙ take-append_seam s.g s.rest
 
-    pub rest-is : drop (1 + reach) bs ≡ s.rest
-    rest-is =
-        ap₂ drop {x = 1 + reach} {y = suc (length s.g)} (omega (arith, reach-is)) s.is ∙ drop-append_seam s.g s.rest
+    pub rest_is : drop (1 + reach) bs ≡ s.rest
+    rest_is =
+        ap₂ drop {x = 1 + reach} {y = suc (length s.g)} (omega (arith, reach_is)) s.is ∙ drop-append_seam s.g s.rest
 
-    pub no-fault : (g : List ℕ) → g ≡ take reach xs
+    pub no_fault : (g : List ℕ) → g ≡ take reach xs
         → first (19 when unsplit p g ∷ 20 when overlaps p g ∷ 21 when narrow p g ∷ []) ≡ 0
     unfolding first
-    no-fault g e = rw (e, group-is, s.parts, s.apart, s.wide)
+    no_fault g e = rw (e, group_is, s.parts, s.apart, s.wide)
 
-    pub right-count : (g : List ℕ) → g ≡ take reach xs → memberCount p g ≡ get_or bs 0 0
-    right-count g e = ap (memberCount p) (e ∙ group-is) ∙ sym count-is
+    pub right_count : (g : List ℕ) → g ≡ take reach xs → member_count p g ≡ get_or bs 0 0
+    right_count g e = ap (member_count p) (e ∙ group_is) ∙ sym count_is
 
-    pub only-zeros-after : (z : List ℕ) → z ≡ drop (1 + reach) bs → alike (replicate (length z) 0) z ≡ true
-    only-zeros-after z e = alike-zeros z (e ∙ rest-is ∙ s.zeros ∙ ap (λ (l : List ℕ). replicate (length l) 0) (sym rest-is ∙ sym e))
+    pub only_zeros_after : (z : List ℕ) → z ≡ drop (1 + reach) bs → alike (replicate (length z) 0) z ≡ true
+    only_zeros_after z e = alike_zeros z (e ∙ rest_is ∙ s.zeros ∙ ap (λ (l : List ℕ). replicate (length l) 0) (sym rest_is ∙ sym e))
 
-  pub standing-found : 0 < length bs → (g z : List ℕ) → g ≡ take reach xs → z ≡ drop (1 + reach) bs
+  pub standing_found : 0 < length bs → (g z : List ℕ) → g ≡ take reach xs → z ≡ drop (1 + reach) bs
       → first (19 when unsplit p g ∷ 20 when overlaps p g ∷ 21 when narrow p g ∷ []) ≡ 0
-      → memberCount p g ≡ get_or bs 0 0 → alike (replicate (length z) 0) z ≡ true → Standing p bs
-  standing-found some g z eg ez f c a =
+      → member_count p g ≡ get_or bs 0 0 → alike (replicate (length z) 0) z ≡ true → Standing p bs
+  standing_found some g z eg ez f c a =
       let h₁₉ = first_past 18 (unsplit p g) _ f in
       let h₂₀ = first_past 19 (overlaps p g) _ h₁₉.1 in
       let h₂₁ = first_past 20 (narrow p g) _ h₂₀.1 in
@@ -175,7 +175,7 @@ module _ (p : Plan) (bs xs : List ℕ) (xs-is : xs ≡ drop 1 bs) where
         g = g;
         rest = z;
         is = drop-cons bs 0 0 some ∙ ap₂ ◌∷◌ (sym c) (sym xs-is ∙ sym (take-append-drop reach xs) ∙ ap₂ ◌++◌ (sym eg) (sym back ∙ sym ez));
-        zeros = zeros-alike z a;
+        zeros = zeros_alike z a;
         parts = h₁₉.0;
         apart = h₂₀.0;
         wide = h₂₁.0;
@@ -186,38 +186,38 @@ module _ (p : Plan) (g : List ℕ) where
   abbrev fault : ℕ
   fault = first (19 when unsplit p g ∷ 20 when overlaps p g ∷ 21 when narrow p g ∷ [])
 
-  pub splits-not : {n : ℕ} → n ≡ memberCount p g → n ≡ 0 → unsplit p g ≡ true
+  pub splits_not : {n : ℕ} → n ≡ member_count p g → n ≡ 0 → unsplit p g ≡ true
   unfolding unsplit
-  splits-not e z = eq-eqb (memberCount p g) 0 (sym e ∙ z)
+  splits_not e z = eq-eqb (member_count p g) 0 (sym e ∙ z)
 
-  pub splits-some : {n : ℕ} → n ≡ memberCount p g → ¬ (n ≡ 0) → unsplit p g ≡ false
+  pub splits_some : {n : ℕ} → n ≡ member_count p g → ¬ (n ≡ 0) → unsplit p g ≡ false
   unfolding unsplit
-  splits-some e z = ne_eqb (memberCount p g) 0 (λ h. z (e ∙ h))
+  splits_some e z = ne_eqb (member_count p g) 0 (λ h. z (e ∙ h))
 
-  pub narrow-is : {t : Bool} → t ≡ (not p.grouped || leb (width p (last p)) (length g)) → narrow p g ≡ t
+  pub narrow_is : {t : Bool} → t ≡ (not p.grouped || leb (width p (last p)) (length g)) → narrow p g ≡ t
   unfolding narrow
-  narrow-is e = ap (λ (x : Bool). not p.grouped || x) (ltb-suc (width p (last p)) (length g)) ∙ sym e
+  narrow_is e = ap (λ (x : Bool). not p.grouped || x) (ltb_suc (width p (last p)) (length g)) ∙ sym e
 
-  pub fault-19 : unsplit p g ≡ true → 19 ≡ fault
-  fault-19 e = sym (first-stop 19 _ _ e)
+  pub fault_19 : unsplit p g ≡ true → 19 ≡ fault
+  fault_19 e = sym (first_stop 19 _ _ e)
 
-  pub fault-20 : unsplit p g ≡ false → overlaps p g ≡ true → 20 ≡ fault
-  fault-20 e f = sym (first-skip 19 _ _ e ∙ first-stop 20 _ _ f)
+  pub fault_20 : unsplit p g ≡ false → overlaps p g ≡ true → 20 ≡ fault
+  fault_20 e f = sym (first_skip 19 _ _ e ∙ first_stop 20 _ _ f)
 
-  pub fault-21 : unsplit p g ≡ false → overlaps p g ≡ false → (t : Bool) → narrow p g ≡ t → cond t 21 0 ≡ fault
-  fault-21 e f true h = sym (first-skip 19 _ _ e ∙ first-skip 20 _ _ f ∙ first-stop 21 _ _ h)
-  fault-21 e f false h = sym (first-skip 19 _ _ e ∙ first-skip 20 _ _ f ∙ first-skip 21 _ _ h ∙ first-none)
+  pub fault_21 : unsplit p g ≡ false → overlaps p g ≡ false → (t : Bool) → narrow p g ≡ t → cond t 21 0 ≡ fault
+  fault_21 e f true h = sym (first_skip 19 _ _ e ∙ first_skip 20 _ _ f ∙ first_stop 21 _ _ h)
+  fault_21 e f false h = sym (first_skip 19 _ _ e ∙ first_skip 20 _ _ f ∙ first_skip 21 _ _ h ∙ first_none)
 
 -- ---- and all of it in the code's words: q is how far the members reach behind the count
-extent-bound : (p : Plan) (n : ℕ) (bytes : List ℕ) → extent p n bytes ≤ length bytes
+extent_bound : (p : Plan) (n : ℕ) (bytes : List ℕ) → extent p n bytes ≤ length bytes
 unfolding extent
-extent-bound p zero bytes = omega arith
-extent-bound p (suc n) [] = omega arith
-extent-bound p (suc n) (u ∷ bytes) =
-    omega (arith, length-take (width p u) bytes, length-drop (width p u) bytes, extent-bound p n (drop (width p u) bytes))
+extent_bound p zero bytes = omega arith
+extent_bound p (suc n) [] = omega arith
+extent_bound p (suc n) (u ∷ bytes) =
+    omega (arith, length-take (width p u) bytes, length-drop (width p u) bytes, extent_bound p n (drop (width p u) bytes))
 
-abbrev pub behindCount : List ℕ → List ℕ
-behindCount bs = take (length bs - 1) (drop 1 bs)
+abbrev pub behind_count : List ℕ → List ℕ
+behind_count bs = take (length bs - 1) (drop 1 bs)
 
 abbrev pub group_of : List ℕ → ℕ → List ℕ
 group_of bs q = take (1 + q - 1) (drop 1 bs)
@@ -225,42 +225,42 @@ group_of bs q = take (1 + q - 1) (drop 1 bs)
 abbrev pub rest_of : List ℕ → ℕ → List ℕ
 rest_of bs q = take (length bs - (1 + q)) (drop (1 + q) bs)
 
-pub reach-small : (p : Plan) (bs : List ℕ) (n : ℕ) {q : ℕ} → q ≡ extent p n (behindCount bs) → q ≤ length bs - 1
-reach-small p bs n e =
-    omega (arith, e, extent-bound p n (behindCount bs), length-take (length bs - 1) (drop 1 bs))
+pub reach_small : (p : Plan) (bs : List ℕ) (n : ℕ) {q : ℕ} → q ≡ extent p n (behind_count bs) → q ≤ length bs - 1
+reach_small p bs n e =
+    omega (arith, e, extent_bound p n (behind_count bs), length-take (length bs - 1) (drop 1 bs))
 
 module _ (p : Plan) (bs : List ℕ) (small : length bs ≤ 256) (room : width p (last p) ≤ length bs) where
-  pub record-none : length bs ≡ 0 → false ≡ given p (padded bs)
-  record-none e = refuted _ (λ t. absurd (omega (arith, ap length (given-standing p bs small room t).is)))
+  pub record_none : length bs ≡ 0 → false ≡ given p (padded bs)
+  record_none e = refuted _ (λ t. absurd (omega (arith, ap length (given_standing p bs small room t).is)))
 
-  module _ {q : ℕ} (e : q ≡ extent p (get_or bs 0 0) (behindCount bs)) where
-    front : group_of bs q ≡ take (reach p bs (behindCount bs) (part-all bs 1)) (behindCount bs)
-    front = ap₂ take {x = 1 + q - 1} {y = extent p (get_or bs 0 0) (behindCount bs)} (omega (arith, e)) (sym (part-all bs 1))
+  module _ {q : ℕ} (e : q ≡ extent p (get_or bs 0 0) (behind_count bs)) where
+    front : group_of bs q ≡ take (reach p bs (behind_count bs) (part_all bs 1)) (behind_count bs)
+    front = ap₂ take {x = 1 + q - 1} {y = extent p (get_or bs 0 0) (behind_count bs)} (omega (arith, e)) (sym (part_all bs 1))
 
-    back : rest_of bs q ≡ drop (1 + reach p bs (behindCount bs) (part-all bs 1)) bs
-    back = part-all bs (1 + q) ∙ ap (λ (k : ℕ). drop (1 + k) bs) e
+    back : rest_of bs q ≡ drop (1 + reach p bs (behind_count bs) (part_all bs 1)) bs
+    back = part_all bs (1 + q) ∙ ap (λ (k : ℕ). drop (1 + k) bs) e
 
-    pub record-fault : {n : ℕ} → n ≡ fault p (group_of bs q) → ¬ (n ≡ 0) → false ≡ given p (padded bs)
-    record-fault f h =
-        refuted _ (λ t. h (f ∙ no-fault p bs (behindCount bs) (part-all bs 1) (given-standing p bs small room t) (group_of bs q) front))
+    pub record_fault : {n : ℕ} → n ≡ fault p (group_of bs q) → ¬ (n ≡ 0) → false ≡ given p (padded bs)
+    record_fault f h =
+        refuted _ (λ t. h (f ∙ no_fault p bs (behind_count bs) (part_all bs 1) (given_standing p bs small room t) (group_of bs q) front))
 
-    pub record-count : {n : ℕ} → n ≡ memberCount p (group_of bs q) → ¬ (n ≡ get_or bs 0 0) → false ≡ given p (padded bs)
-    record-count f h =
-        refuted _ (λ t. h (f ∙ right-count p bs (behindCount bs) (part-all bs 1) (given-standing p bs small room t) (group_of bs q) front))
+    pub record_count : {n : ℕ} → n ≡ member_count p (group_of bs q) → ¬ (n ≡ get_or bs 0 0) → false ≡ given p (padded bs)
+    record_count f h =
+        refuted _ (λ t. h (f ∙ right_count p bs (behind_count bs) (part_all bs 1) (given_standing p bs small room t) (group_of bs q) front))
 
-    pub record-rest : {n m : ℕ} {t : Bool} → 0 < length bs → n ≡ fault p (group_of bs q) → n ≡ 0
-        → m ≡ memberCount p (group_of bs q) → m ≡ get_or bs 0 0
+    pub record_rest : {n m : ℕ} {t : Bool} → 0 < length bs → n ≡ fault p (group_of bs q) → n ≡ 0
+        → m ≡ member_count p (group_of bs q) → m ≡ get_or bs 0 0
         → t ≡ alike (replicate (length (rest_of bs q)) 0) (rest_of bs q) → t ≡ given p (padded bs)
-    record-rest some f z g c a =
+    record_rest some f z g c a =
         a
         ∙ both _ _
-        (λ y. standing-given p bs small
-        (standing-found p bs (behindCount bs) (part-all bs 1) some (group_of bs q) (rest_of bs q) front back (sym f ∙ z) (sym g ∙ c) y))
-        (λ y. only-zeros-after p bs (behindCount bs) (part-all bs 1) (given-standing p bs small room y) (rest_of bs q) back)
+        (λ y. standing_given p bs small
+        (standing_found p bs (behind_count bs) (part_all bs 1) some (group_of bs q) (rest_of bs q) front back (sym f ∙ z) (sym g ∙ c) y))
+        (λ y. only_zeros_after p bs (behind_count bs) (part_all bs 1) (given_standing p bs small room y) (rest_of bs q) back)
 
 -- ---- the record that a group gives
-pub count_small : (p : Plan) (g : List ℕ) → memberCount p g ≤ 4
-unfolding memberCount
+pub count_small : (p : Plan) (g : List ℕ) → member_count p g ≤ 4
+unfolding member_count
 count_small p g = go (splits p 2 g) (splits p 3 g) (splits p 4 g)
   where
     go : (x y z : Bool) → cond x 2 (cond y 3 (cond z 4 0)) ≤ 4
@@ -269,10 +269,10 @@ count_small p g = go (splits p 2 g) (splits p 3 g) (splits p 4 g)
     go false false true = omega arith
     go false false false = omega arith
 
-pub record-made : (p : Plan) (g : List ℕ) {n : ℕ} {part : List ℕ} → n ≡ memberCount p g → part ≡ g ++ replicate (255 - length g) 0
-    → n % 256 ∷ (part ++ []) ≡ payloadOf p g
-unfolding payloadOf
-record-made p g {n} {part} e f =
+pub record_made : (p : Plan) (g : List ℕ) {n : ℕ} {part : List ℕ} → n ≡ member_count p g → part ≡ g ++ replicate (255 - length g) 0
+    → n % 256 ∷ (part ++ []) ≡ payload_of p g
+unfolding payload_of
+record_made p g {n} {part} e f =
     ap₂ ◌∷◌
     (omega (arith, e, count_small p g))
     (append-nil part ∙ f ∙ ap (λ (k : ℕ). g ++ replicate {A = ℕ} k 0) {x = 255 - length g} {y = 256 - suc (length g)} (omega arith))

@@ -10,10 +10,10 @@ use lib.Seq.{drop-cons, drop-drop, take_all}
 use borrow.Author.Tests.{ltb-true, leb-true, eq-eqb, ne_eqb}
 use Rattle.model.specs.declared.Plan.{Plan}
 use Rattle.model.specs.Plans.{width}
-use Rattle.model.specs.Groups.{Write, write, last, split, splits, memberCount, members, among, twice, unsplit, overlaps}
+use Rattle.model.specs.Groups.{Write, write, last, split, splits, member_count, members, among, twice, unsplit, overlaps}
 use Rattle.model.proofs.Compare.{same}
-use Rattle.model.proofs.RefusalLaws.{and-true}
-use Rattle.model.proofs.GroupLaws.{count-splits}
+use Rattle.model.proofs.RefusalLaws.{and_true}
+use Rattle.model.proofs.GroupLaws.{count_splits}
 use Rattle.group.specs.Parts.{extent}
 
 pub past_end : (g : List ℕ) (at : ℕ) → length g ≤ at → drop at g ≡ []
@@ -33,28 +33,28 @@ module _ (p : Plan) (g : List ℕ) (at : ℕ) (h : at < length g) where
   abbrev behind : List ℕ
   behind = drop (at + 1 + wide) g
 
-  behind-is : drop wide (drop (suc at) g) ≡ behind
-  behind-is = drop-drop wide (suc at) g ∙ ap (λ (n : ℕ). drop n g) {x = suc at + wide} {y = at + 1 + wide} (omega arith)
+  behind_is : drop wide (drop (suc at) g) ≡ behind
+  behind_is = drop-drop wide (suc at) g ∙ ap (λ (n : ℕ). drop n g) {x = suc at + wide} {y = at + 1 + wide} (omega arith)
 
-  pub splits-at : (k : ℕ)
+  pub splits_at : (k : ℕ)
       → splits p (suc k) (drop at g) ≡ (ltb unit p.count && leb wide (length (drop (suc at) g))) && splits p k behind
   unfolding splits
-  splits-at k =
+  splits_at k =
       ap (splits p (suc k)) (drop-cons g at 0 h)
-      ∙ ap (λ (xs : List ℕ). (ltb unit p.count && leb wide (length (drop (suc at) g))) && splits p k xs) behind-is
+      ∙ ap (λ (xs : List ℕ). (ltb unit p.count && leb wide (length (drop (suc at) g))) && splits p k xs) behind_is
 
   pub split_at : (k : ℕ) → split p (suc k) (drop at g) ≡ write unit (take wide (drop (suc at) g)) ∷ split p k behind
   unfolding split
   split_at k =
       ap (split p (suc k)) (drop-cons g at 0 h)
-      ∙ ap (λ (xs : List ℕ). write unit (take wide (drop (suc at) g)) ∷ split p k xs) behind-is
+      ∙ ap (λ (xs : List ℕ). write unit (take wide (drop (suc at) g)) ∷ split p k xs) behind_is
 
-  pub extent-at : (k : ℕ)
+  pub extent_at : (k : ℕ)
       → extent p (suc k) (drop at g) ≡ suc (length (take wide (drop (suc at) g))) + extent p k behind
   unfolding extent
-  extent-at k =
+  extent_at k =
       ap (extent p (suc k)) (drop-cons g at 0 h)
-      ∙ ap (λ (xs : List ℕ). suc (length (take wide (drop (suc at) g))) + extent p k xs) behind-is
+      ∙ ap (λ (xs : List ℕ). suc (length (take wide (drop (suc at) g))) + extent p k xs) behind_is
 
 -- ---- what the members from a place on come to
 pub record Left (p : Plan) (g : List ℕ) (at n : ℕ) (F : List Write → Bool) : Type 0 where
@@ -66,8 +66,8 @@ pub record Left (p : Plan) (g : List ℕ) (at n : ℕ) (F : List Write → Bool)
 abbrev pub Goes : Plan → List ℕ → ℕ → (List Write → Bool) → Type 0
 Goes p g at F = (n : ℕ) → splits p n g ≡ true → Left p g at n F
 
-pub goes-start : (p : Plan) (g : List ℕ) (F : List Write → Bool) → Goes p g 0 F
-goes-start p g F n e = record { k = n; exact = e; same = refl }
+pub goes_start : (p : Plan) (g : List ℕ) (F : List Write → Bool) → Goes p g 0 F
+goes_start p g F n e = record { k = n; exact = e; same = refl }
 
 none_left : (p : Plan) (k : ℕ) → splits p k [] ≡ true → split p k [] ≡ []
 unfolding splits split
@@ -102,9 +102,9 @@ opens {p} {g} {at} {F} goes h n e = go l.k l.exact l.same
     go : (k : ℕ) → splits p k (drop at g) ≡ true → F (split p n g) ≡ F (split p k (drop at g)) → Opened p g at n F
     go zero ex sa = absurd (false≢true (sym (ap (splits p 0) (drop-cons g at 0 h)) ∙ ex))
     go (suc k) ex sa =
-        let a = and-true (ltb (get_or g at 0) p.count && leb (width p (get_or g at 0)) (length (drop (suc at) g))) _
-        (sym (splits-at p g at h k) ∙ ex) in
-        let b = and-true (ltb (get_or g at 0) p.count) _ a.0 in
+        let a = and_true (ltb (get_or g at 0) p.count && leb (width p (get_or g at 0)) (length (drop (suc at) g))) _
+        (sym (splits_at p g at h k) ∙ ex) in
+        let b = and_true (ltb (get_or g at 0) p.count) _ a.0 in
         record {
           k = k;
           small = ltb-true _ p.count b.0;
@@ -115,13 +115,13 @@ opens {p} {g} {at} {F} goes h n e = go l.k l.exact l.same
 
 -- ---- a unit among the members
 module _ {p : Plan} {g : List ℕ} {at u : ℕ} (goes : Goes p g at (among u)) where
-  pub has-it : at < length g → u ≡ get_or g at 0 → (n : ℕ) → splits p n g ≡ true → true ≡ among u (split p n g)
+  pub has_it : at < length g → u ≡ get_or g at 0 → (n : ℕ) → splits p n g ≡ true → true ≡ among u (split p n g)
   unfolding among
-  has-it h e n s = sym ((opens goes h n s).same ∙ rw (eq-eqb u (get_or g at 0) e))
+  has_it h e n s = sym ((opens goes h n s).same ∙ rw (eq-eqb u (get_or g at 0) e))
 
-  pub has-not : (w : ℕ) → at < length g → ¬ (u ≡ get_or g at 0) → w ≡ width p (get_or g at 0) → Goes p g (at + 1 + w) (among u)
+  pub has_not : (w : ℕ) → at < length g → ¬ (u ≡ get_or g at 0) → w ≡ width p (get_or g at 0) → Goes p g (at + 1 + w) (among u)
   unfolding among
-  has-not w h e q n s =
+  has_not w h e q n s =
       let o = opens goes h n s in
       record {
         k = o.k;
@@ -130,13 +130,13 @@ module _ {p : Plan} {g : List ℕ} {at u : ℕ} (goes : Goes p g at (among u)) w
       }
 
 -- a member that the bytes end in stands in no number of members
-pub short-not : {p : Plan} {g : List ℕ} {at : ℕ} {F : List Write → Bool} → Goes p g at F → (w : ℕ) → at < length g
+pub short_not : {p : Plan} {g : List ℕ} {at : ℕ} {F : List Write → Bool} → Goes p g at F → (w : ℕ) → at < length g
     → w ≡ width p (get_or g at 0) → length g - at ≤ w → {t : Bool} → (n : ℕ) → splits p n g ≡ true → t ≡ F (split p n g)
-short-not goes w h q l n s = absurd (omega (arith, (opens goes h n s).fits))
+short_not goes w h q l n s = absurd (omega (arith, (opens goes h n s).fits))
 
 -- the rest of a slice, as it is handed on
-pub part-all : (g : List ℕ) (a : ℕ) → take (length g - a) (drop a g) ≡ drop a g
-part-all g a = take_all (length g - a) (drop a g) (omega (arith, length-drop a g))
+pub part_all : (g : List ℕ) (a : ℕ) → take (length g - a) (drop a g) ≡ drop a g
+part_all g a = take_all (length g - a) (drop a g) (omega (arith, length-drop a g))
 
 -- ---- a unit twice
 module _ {p : Plan} {g : List ℕ} {at : ℕ} (goes : Goes p g at twice) where
@@ -144,52 +144,52 @@ module _ {p : Plan} {g : List ℕ} {at : ℕ} (goes : Goes p g at twice) where
   abbrev Behind : ℕ → List ℕ → Bool → Type 0
   Behind w rest t = (n : ℕ) → splits p n rest ≡ true → t ≡ among (get_or g at 0) (split p n rest)
 
-  among-behind : (w : ℕ) {rest : List ℕ} {t : Bool} (k : ℕ) → w ≡ width p (get_or g at 0) → rest ≡ drop (at + 1 + w) g → Behind w rest t
+  among_behind : (w : ℕ) {rest : List ℕ} {t : Bool} (k : ℕ) → w ≡ width p (get_or g at 0) → rest ≡ drop (at + 1 + w) g → Behind w rest t
       → splits p k (drop (at + 1 + width p (get_or g at 0)) g) ≡ true
       → among (get_or g at 0) (split p k (drop (at + 1 + width p (get_or g at 0)) g)) ≡ t
-  among-behind w {rest} {t} k q r has e =
+  among_behind w {rest} {t} k q r has e =
       let is : drop (at + 1 + width p (get_or g at 0)) g ≡ rest = ap (λ (x : ℕ). drop (at + 1 + x) g) (sym q) ∙ sym r in
       ap (λ (xs : List ℕ). among (get_or g at 0) (split p k xs)) is ∙ sym (has k (sym (ap (splits p k) is) ∙ e))
 
-  pub twice-it : (w : ℕ) {rest : List ℕ} → at < length g → w ≡ width p (get_or g at 0) → rest ≡ drop (at + 1 + w) g → Behind w rest true
+  pub twice_it : (w : ℕ) {rest : List ℕ} → at < length g → w ≡ width p (get_or g at 0) → rest ≡ drop (at + 1 + w) g → Behind w rest true
       → (n : ℕ) → splits p n g ≡ true → true ≡ twice (split p n g)
   unfolding twice
-  twice-it w h q r has n s =
+  twice_it w h q r has n s =
       let o = opens goes h n s in
       sym (o.same
-      ∙ ap (λ (t : Bool). t || twice (split p o.k (drop (at + 1 + width p (get_or g at 0)) g))) (among-behind w o.k q r has o.exact))
+      ∙ ap (λ (t : Bool). t || twice (split p o.k (drop (at + 1 + width p (get_or g at 0)) g))) (among_behind w o.k q r has o.exact))
 
-  pub twice-not : (w : ℕ) {rest : List ℕ} → at < length g → w ≡ width p (get_or g at 0) → rest ≡ drop (at + 1 + w) g → Behind w rest false
+  pub twice_not : (w : ℕ) {rest : List ℕ} → at < length g → w ≡ width p (get_or g at 0) → rest ≡ drop (at + 1 + w) g → Behind w rest false
       → Goes p g (at + 1 + w) twice
   unfolding twice
-  twice-not w h q r has n s =
+  twice_not w h q r has n s =
       let o = opens goes h n s in
       record {
         k = o.k;
         exact = ap (λ (x : ℕ). splits p o.k (drop (at + 1 + x) g)) q ∙ o.exact;
         same = o.same
-            ∙ ap (λ (t : Bool). t || twice (split p o.k (drop (at + 1 + width p (get_or g at 0)) g))) (among-behind w o.k q r has o.exact)
+            ∙ ap (λ (t : Bool). t || twice (split p o.k (drop (at + 1 + width p (get_or g at 0)) g))) (among_behind w o.k q r has o.exact)
             ∙ ap (λ (x : ℕ). twice (split p o.k (drop (at + 1 + x) g))) (sym q);
       }
 
 -- ---- 20 of a group that splits
 module _ (p : Plan) (g : List ℕ) (parts : unsplit p g ≡ false) where
-  pub overlaps-twice : {t : Bool} → t ≡ true → ((n : ℕ) → splits p n g ≡ true → t ≡ twice (split p n g)) → true ≡ overlaps p g
+  pub overlaps_twice : {t : Bool} → t ≡ true → ((n : ℕ) → splits p n g ≡ true → t ≡ twice (split p n g)) → true ≡ overlaps p g
   unfolding overlaps members
-  overlaps-twice e h =
-      let s : twice (split p (memberCount p g) g) ≡ true = sym (h _ (count-splits p g parts)) ∙ e in
+  overlaps_twice e h =
+      let s : twice (split p (member_count p g) g) ≡ true = sym (h _ (count_splits p g parts)) ∙ e in
       rw s
 
-  pub overlaps-record : {t r : Bool} {u : ℕ} → t ≡ false → ((n : ℕ) → splits p n g ≡ true → t ≡ twice (split p n g))
+  pub overlaps_record : {t r : Bool} {u : ℕ} → t ≡ false → ((n : ℕ) → splits p n g ≡ true → t ≡ twice (split p n g))
       → p.grouped ≡ true → u ≡ last p → ((n : ℕ) → splits p n g ≡ true → r ≡ among u (split p n g)) → r ≡ overlaps p g
   unfolding overlaps members
-  overlaps-record e h grouped q has =
-      let s : twice (split p (memberCount p g) g) ≡ false = sym (h _ (count-splits p g parts)) ∙ e in
-      has _ (count-splits p g parts) ∙ rw (s, grouped, q)
+  overlaps_record e h grouped q has =
+      let s : twice (split p (member_count p g) g) ≡ false = sym (h _ (count_splits p g parts)) ∙ e in
+      has _ (count_splits p g parts) ∙ rw (s, grouped, q)
 
-  pub overlaps-none : {t : Bool} → t ≡ false → ((n : ℕ) → splits p n g ≡ true → t ≡ twice (split p n g)) → p.grouped ≡ false
+  pub overlaps_none : {t : Bool} → t ≡ false → ((n : ℕ) → splits p n g ≡ true → t ≡ twice (split p n g)) → p.grouped ≡ false
       → false ≡ overlaps p g
   unfolding overlaps members
-  overlaps-none e h ungrouped =
-      let s : twice (split p (memberCount p g) g) ≡ false = sym (h _ (count-splits p g parts)) ∙ e in
+  overlaps_none e h ungrouped =
+      let s : twice (split p (member_count p g) g) ≡ false = sym (h _ (count_splits p g parts)) ∙ e in
       rw (s, ungrouped)

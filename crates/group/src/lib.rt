@@ -2,7 +2,7 @@
 // count, the members, and zeros; the device holds it as its payload, and the record unit in its copies.
 ghost use Rattle.std.specs.Prelude.{◌≡◌, [], ◌∷◌, true, false, not, ◌||◌, ℕ, ◌≤◌, ◌<◌, leb, length, replicate};
 ghost use Rattle.model.specs.Plans.{width};
-ghost use Rattle.model.specs.Groups.{last, isRecord, padded, split, splits, memberCount, among, twice, unsplit, overlaps, narrow, payloadOf, alike, given};
+ghost use Rattle.model.specs.Groups.{last, is_record, padded, split, splits, member_count, among, twice, unsplit, overlaps, narrow, payload_of, alike, given};
 ghost use Rattle.model.specs.Refusals.{◌when◌, first};
 ghost use Rattle.group.specs.Parts.{extent, PartOf};
 
@@ -34,7 +34,7 @@ fn extent_of(plan: Plan, bytes: &[u8], members: u16) -> usize
 
 // How many members the bytes are, 2 to 4; 0 if they don't split into so many, of units that the plan has.
 pub fn member_count(plan: Plan, bytes: &[u8]) -> u16
-    ensures { result ≡ memberCount plan bytes.now }
+    ensures { result ≡ member_count plan bytes.now }
 {
     let length = bytes.len();
     let mut at: usize = 0;
@@ -107,7 +107,7 @@ pub fn last_of(plan: Plan) -> u16
 
 // Whether a unit is the group record.
 pub fn is_record(plan: Plan, unit: u16) -> bool
-    ensures { result ≡ isRecord plan unit }
+    ensures { result ≡ is_record plan unit }
 {
     if plan.grouped {
         return unit == last_of(plan);
@@ -190,7 +190,7 @@ pub fn stands(plan: Plan, bytes: &[u8]) -> bool
 // The record of a group, zeros after it.
 pub fn record_of(plan: Plan, bytes: &[u8]) -> [u8; 256]
     requires { length bytes.now < 256 }
-    ensures { result ≡ payloadOf plan bytes.now }
+    ensures { result ≡ payload_of plan bytes.now }
 {
     let mut held = [0u8; 256];
     fill(&mut held[1..], bytes);

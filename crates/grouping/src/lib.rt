@@ -2,7 +2,7 @@
 ghost use Rattle.std.specs.Prelude.{◌≡◌, true, ℕ, ◌≤◌, length};
 ghost use Rattle.model.specs.Layout.{marker, total, get};
 ghost use Rattle.model.specs.Groups.{split, splits};
-ghost use Rattle.model.specs.Refusals.{dirty, groupNumber};
+ghost use Rattle.model.specs.Refusals.{dirty, group_number};
 ghost use Rattle.model.specs.Calls.{view_of};
 ghost use Rattle.model.proofs.RefusalLaws.{PlanOk};
 
@@ -39,7 +39,7 @@ fn any_dirty(plan: Plan, image: &[u8], bytes: &[u8]) -> bool
 
 // Refusals 1 to 5, 19 to 21 and 8 of a group, in this order; `held` is the payload that the device has.
 pub fn group_number(plan: Plan, held: &[u8; 256], phase: Phase, image: &[u8], bytes: &[u8]) -> u16
-    ensures { result ≡ groupNumber (view_of plan held.now phase image.now) bytes.now }
+    ensures { result ≡ group_number (view_of plan held.now phase image.now) bytes.now }
 {
     let number = ready_number(plan, held, phase, image.len());
     if number != 0 {

@@ -3,10 +3,10 @@ use Rattle.std.specs.Prelude.{ℕ, ◌<◌, ◌≡◌}
 use Rattle.layout.specs.declared.Measured.{Measured}
 use Rattle.model.specs.declared.Plan.{Plan}
 use Rattle.model.specs.Layout.{base, total}
-use Rattle.model.specs.Refusals.{startNumber}
+use Rattle.model.specs.Refusals.{start_number}
 
 pub record Measures (p : Plan) (u : ℕ) (r : Measured) : Type 0 where
-  pub number : r.number ≡ startNumber p
+  pub number : r.number ≡ start_number p
   pub total : r.number ≡ 0 → r.total ≡ total p
   pub page : r.number ≡ 0 → r.page ≡ p.page
   pub base : r.number ≡ 0 → u < p.count → r.base ≡ base p u

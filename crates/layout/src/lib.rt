@@ -1,7 +1,7 @@
 // The plan in code: what is wrong with it, and where its units lie. The bottom layer of the library.
 ghost use Rattle.std.specs.Prelude.{◌≡◌, false, cond, ◌||◌, eqb, ltb, ◌+◌, ◌*◌, ◌≤◌};
-ghost use Rattle.model.specs.Plans.{PageSize, badPage};
-ghost use Rattle.model.specs.Layout.{wholePages, unitLength, base, width};
+ghost use Rattle.model.specs.Plans.{PageSize, bad_page};
+ghost use Rattle.model.specs.Layout.{whole_pages, unit_length, base, width};
 ghost use Rattle.layout.specs.Measures.{Measures};
 
 use model::Plan;
@@ -25,7 +25,7 @@ fn many_bytes(page: u16) -> bool
 
 // The bytes of a page; 1 for a size that is refused.
 fn page_of(plan: Plan) -> u32
-    ensures { result ≡ cond (badPage plan.page) 1 plan.page }
+    ensures { result ≡ cond (bad_page plan.page) 1 plan.page }
 {
     let page = plan.page;
     if many_bytes(page) { page as u32 } else { 1 }
@@ -34,7 +34,7 @@ fn page_of(plan: Plan) -> u32
 // A width rounded up to whole pages. The bits of an offset inside a page are those of `last`, since a page's size is a power of two.
 pub fn copy_length(width: u16, page: u32) -> u32
     requires { PageSize page }
-    ensures { (result ≡ wholePages page width) × (result ≤ width + 15) }
+    ensures { (result ≡ whole_pages page width) × (result ≤ width + 15) }
 {
     let last = page - 1;
     let most = (width as u32) + last;
@@ -42,8 +42,8 @@ pub fn copy_length(width: u16, page: u32) -> u32
 }
 
 pub fn unit_length(plan: Plan, unit: u16) -> usize
-    requires { badPage plan.page ≡ false }
-    ensures { (result ≡ unitLength plan unit) × (result ≤ 131116) }
+    requires { bad_page plan.page ≡ false }
+    ensures { (result ≡ unit_length plan unit) × (result ≤ 131116) }
 {
     let page = page_of(plan);
     let copy = copy_length(width_of(plan, unit), page);
@@ -52,7 +52,7 @@ pub fn unit_length(plan: Plan, unit: u16) -> usize
 
 // The image byte where a unit begins.
 pub fn base_of(plan: Plan, unit: u16) -> usize
-    requires { badPage plan.page ≡ false }
+    requires { bad_page plan.page ≡ false }
     ensures { (result ≡ base plan unit) × (result ≤ unit * 131116) }
 {
     let mut sum: usize = 0;

@@ -3,14 +3,14 @@
 use Rattle.std.specs.Prelude.{ℕ, zero, suc, ◌+◌, cond, List, eqb}
 use Prim.Native.Char.{code}
 use Rattle.token.specs.declared.Item.{Item}
-use Rattle.token.specs.Token.{lost, eatAt, hexAt, entry_at, number_at}
+use Rattle.token.specs.Token.{lost, eat_at, hex_at, entry_at, number_at}
 use Rattle.list.specs.declared.Kind.{Kind}
 use Rattle.list.specs.declared.Kind.TheVariants.{Byte, Number, Entry}
 use Rattle.list.specs.declared.Items.{Items}
 
 -- what a list is made of: HH, W or a curve's entries
 unfoldable pub item_at : Kind → List ℕ → ℕ → Item
-item_at Byte line at = hexAt line at
+item_at Byte line at = hex_at line at
 item_at Number line at = number_at line at
 item_at Entry line at = entry_at line at
 
@@ -23,12 +23,12 @@ abbrev pub ends_at : ℕ → ℕ → Items → Items
 ends_at next count longer = cond (eqb next lost) longer (items count next)
 
 -- "single spaces": after count items one to most more, and `)`
-unfoldable pub itemsAt : Kind → List ℕ → ℕ → ℕ → ℕ → Items
-itemsAt kind line at zero count = items 0 lost
-itemsAt kind line at (suc most) count =
+unfoldable pub items_at : Kind → List ℕ → ℕ → ℕ → ℕ → Items
+items_at kind line at zero count = items 0 lost
+items_at kind line at (suc most) count =
     let past : ℕ = (item_at kind line at).next in
-    ends_at (eatAt line past (code ")")) (count + 1) (itemsAt kind line (eatAt line past (code " ")) most (count + 1))
+    ends_at (eat_at line past (code ")")) (count + 1) (items_at kind line (eat_at line past (code " ")) most (count + 1))
 
 -- "(W ..)", "(HH ..)", after the `(`: none to most items, and `)`
-unfoldable pub listAt : Kind → List ℕ → ℕ → ℕ → Items
-listAt kind line at most = cond (eqb at lost) (items 0 lost) (ends_at (eatAt line at (code ")")) 0 (itemsAt kind line at most 0))
+unfoldable pub list_at : Kind → List ℕ → ℕ → ℕ → Items
+list_at kind line at most = cond (eqb at lost) (items 0 lost) (ends_at (eat_at line at (code ")")) 0 (items_at kind line at most 0))

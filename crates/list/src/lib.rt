@@ -1,7 +1,7 @@
 // Lists at a place of a line, over the tokens of `token`: items with single spaces between, and the bracket that ends them. As there,
 // the place past what isn't a list is LOST.
 ghost use Rattle.std.specs.Prelude.{◌≡◌};
-ghost use Rattle.list.specs.List.{item_at, itemsAt, listAt};
+ghost use Rattle.list.specs.List.{item_at, items_at, list_at};
 
 use token::{Item, LOST, eat, entry, hex, number};
 
@@ -33,7 +33,7 @@ fn item_at(kind: Kind, line: &[u8], at: usize) -> Item
 
 // One to `most` items with single spaces between, and the bracket that ends them.
 pub fn items_at(kind: Kind, line: &[u8], at: usize, most: usize) -> Items
-    ensures { result ≡ itemsAt kind line.now at most 0 }
+    ensures { result ≡ items_at kind line.now at most 0 }
 {
     let mut p = at;
     let mut count: usize = 0;
@@ -58,7 +58,7 @@ pub fn items_at(kind: Kind, line: &[u8], at: usize, most: usize) -> Items
 
 // A list's items after its bracket, 0 to `most`, and the bracket that ends them.
 pub fn list_at(kind: Kind, line: &[u8], at: usize, most: usize) -> Items
-    ensures { result ≡ listAt kind line.now at most }
+    ensures { result ≡ list_at kind line.now at most }
 {
     if at == LOST {
         return Items {

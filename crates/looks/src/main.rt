@@ -4,7 +4,7 @@
 // document and the tickets alone.
 ghost use Rattle.std.specs.Prelude.{◌≡◌, ◌<◌, ◌≤◌, length};
 ghost use Rattle.model.specs.Layout.{total};
-ghost use Rattle.model.specs.Refusals.{startNumber};
+ghost use Rattle.model.specs.Refusals.{start_number};
 
 use brake::drive;
 use io::{print_decimal, print_hex};
@@ -173,7 +173,7 @@ fn look(line: &[u8], device: Device, image: &mut [u8]) -> bool
 
 // A unit of an accepted plan, as the bench prints it.
 fn say_unit(plan: Plan, image: &[u8], unit: u16)
-    requires { (startNumber plan ≡ 0) × (total plan ≤ length image.now) × (unit < plan.count) }
+    requires { (start_number plan ≡ 0) × (total plan ≤ length image.now) × (unit < plan.count) }
 {
     let mut out = [0u8; printing::LINE_MOST];
     let end = put_unit(&mut out, 0, plan, image, unit);

@@ -11,96 +11,96 @@ use Rattle.model.specs.declared.Plan.{Plan}
 use Rattle.model.specs.declared.Direction.{Direction}
 use Rattle.model.specs.declared.Phase.{Phase}
 use Rattle.model.specs.declared.Phase.TheVariants.{Writing, Recovering, Grouping}
-use Rattle.model.specs.Layout.{copyA, copyB, byte, width, unitLength, offset, base, total, copy_of}
-use Rattle.model.specs.Groups.{writeAt}
+use Rattle.model.specs.Layout.{copy_a, copy_b, byte, width, unit_length, offset, base, total, copy_of}
+use Rattle.model.specs.Groups.{write_at}
 use Rattle.model.specs.Calls.{job_of, view_of}
-use Rattle.model.specs.Refusals.{grouping, SHORT-IMAGE, BAD-JOB, badWrite, badJob, ◌when◌, first, startNumber}
+use Rattle.model.specs.Refusals.{grouping, SHORT-IMAGE, BAD-JOB, bad_write, bad_job, ◌when◌, first, start_number}
 use Rattle.model.proofs.Compare.{equal, differ, same}
-use Rattle.model.proofs.LayoutLaws.{copy-room, base-bound}
-use Rattle.model.proofs.RefusalLaws.{first-skip, first-stop, first-none, first-refused, plan-passed, PlanOk, page-some, page-fits, past, start-says, start_fine, count-bounds, width-bounds}
+use Rattle.model.proofs.LayoutLaws.{copy_room, base_bound}
+use Rattle.model.proofs.RefusalLaws.{first_skip, first_stop, first_none, first_refused, plan_passed, PlanOk, page_some, page_fits, past, start_says, start_fine, count_bounds, width_bounds}
 use Rattle.model.specs.Plans.{PageSize}
 use Rattle.group.specs.declared.Part.{Part}
 use Rattle.group.specs.Parts.{PartOf}
-use Rattle.group.proofs.Next.{part-good}
-use Rattle.layout.proofs.Laws.{size-bounds, rounded-most}
+use Rattle.group.proofs.Next.{part_good}
+use Rattle.layout.proofs.Laws.{size_bounds, rounded_most}
 use Rattle.lookup.specs.declared.Span.{Span}
-use Rattle.lookup.specs.Spans.{imageRow, Live, span_of, jobRow, Spans, Sound}
+use Rattle.lookup.specs.Spans.{image_row, Live, span_of, job_row, Spans, Sound}
 
 module _ (p : Plan) where
   -- eight units of 528 bytes are the most: 16 for the marker's page, and 256 a copy
-  pub unit-small : PlanOk p → (u : ℕ) → u < p.count → unitLength p u ≤ 528
-  unit-small ok u h =
-      let size = page-fits p ok.page in
-      omega (arith, (size-bounds p.page size).1, rounded-most p.page (width p u) size (width-bounds p ok u h).1)
+  pub unit_small : PlanOk p → (u : ℕ) → u < p.count → unit_length p u ≤ 528
+  unit_small ok u h =
+      let size = page_fits p ok.page in
+      omega (arith, (size_bounds p.page size).1, rounded_most p.page (width p u) size (width_bounds p ok u h).1)
 
-  pub base-small : PlanOk p → (u : ℕ) → u ≤ p.count → base p u ≤ u * 528
+  pub base_small : PlanOk p → (u : ℕ) → u ≤ p.count → base p u ≤ u * 528
   unfolding base
-  base-small ok zero h = omega arith
-  base-small ok (suc u) h = omega (arith, base-small ok u (omega arith), unit-small ok u (omega arith))
+  base_small ok zero h = omega arith
+  base_small ok (suc u) h = omega (arith, base_small ok u (omega arith), unit_small ok u (omega arith))
 
 -- where plan and image are fine, refusal 4 is left: n is measure's number, b its total, k what is said of the job
-module _ (p : Plan) (payload : List ℕ) (phase : Phase) (length n b : ℕ) (e : n ≡ startNumber p) (z : n ≡ 0) (t : b ≡ total p) (l : b ≤ length) where
-  before-job : first (imageRow p payload phase length) ≡ first (4 when badJob p payload (job_of phase) ∷ [])
-  before-job = plan-passed p _ (sym e ∙ z) ∙ first-skip 3 _ _ (le-ltb length (total p) (rw t at l))
+module _ (p : Plan) (payload : List ℕ) (phase : Phase) (length n b : ℕ) (e : n ≡ start_number p) (z : n ≡ 0) (t : b ≡ total p) (l : b ≤ length) where
+  before_job : first (image_row p payload phase length) ≡ first (4 when bad_job p payload (job_of phase) ∷ [])
+  before_job = plan_passed p _ (sym e ∙ z) ∙ first_skip 3 _ _ (le-ltb length (total p) (rw t at l))
 
-  pub no-job : badJob p payload (job_of phase) ≡ false → 0 ≡ first (imageRow p payload phase length)
-  no-job h = sym (before-job ∙ first-skip 4 _ [] h ∙ first-none)
+  pub no_job : bad_job p payload (job_of phase) ≡ false → 0 ≡ first (image_row p payload phase length)
+  no_job h = sym (before_job ∙ first_skip 4 _ [] h ∙ first_none)
 
   module _ (u made w k : ℕ) (ew : w ≡ width p u) where
-    pub writing-job : phase ≡ Writing u made → k ≡ first (4 when (leb p.count u || leb (2 * w + 3) made) ∷ [])
-        → k ≡ first (imageRow p payload phase length)
-    unfolding badJob
-    writing-job is ek = ek ∙ sym (before-job ∙ rw (is, ← ew))
+    pub writing_job : phase ≡ Writing u made → k ≡ first (4 when (leb p.count u || leb (2 * w + 3) made) ∷ [])
+        → k ≡ first (image_row p payload phase length)
+    unfolding bad_job
+    writing_job is ek = ek ∙ sym (before_job ∙ rw (is, ← ew))
 
-    pub cleaning-job : (d : Direction) → phase ≡ Recovering u made d
-        → k ≡ first (4 when (leb p.count u || leb (w + 1) made) ∷ []) → k ≡ first (imageRow p payload phase length)
-    unfolding badJob
-    cleaning-job d is ek = ek ∙ sym (before-job ∙ rw (is, ← ew))
+    pub cleaning_job : (d : Direction) → phase ≡ Recovering u made d
+        → k ≡ first (4 when (leb p.count u || leb (w + 1) made) ∷ []) → k ≡ first (image_row p payload phase length)
+    unfolding bad_job
+    cleaning_job d is ek = ek ∙ sym (before_job ∙ rw (is, ← ew))
 
-  pub grouping-job : (i made k : ℕ) → phase ≡ Grouping i made → k ≡ first (4 when badJob p payload (grouping i made) ∷ [])
-      → k ≡ first (imageRow p payload phase length)
-  grouping-job i made k is ek = ek ∙ sym (before-job ∙ rw is)
+  pub grouping_job : (i made k : ℕ) → phase ≡ Grouping i made → k ≡ first (4 when bad_job p payload (grouping i made) ∷ [])
+      → k ≡ first (image_row p payload phase length)
+  grouping_job i made k is ek = ek ∙ sym (before_job ∙ rw is)
 
 -- a write of a group that 4 may refuse for its stores: r is what was found, k the answer
 module _ {p : Plan} {payload : List ℕ} {i : ℕ} {r : Part} (found : PartOf p payload i r) (made : ℕ) where
-  abbrev atJob : ℕ
-  atJob = first (4 when badJob p payload (grouping i made) ∷ [])
+  abbrev at_job : ℕ
+  at_job = first (4 when bad_job p payload (grouping i made) ∷ [])
 
-  job_is : (t : Bool) → badWrite p payload i ≡ t → r.number ≡ first (4 when t ∷ [])
+  job_is : (t : Bool) → bad_write p payload i ≡ t → r.number ≡ first (4 when t ∷ [])
   job_is t e = found.number ∙ ap (λ (x : Bool). first (4 when x ∷ [])) e
 
-  pub no_part : ¬ (r.number ≡ 0) → r.number ≡ atJob
-  unfolding badJob first
-  no_part h = go (badWrite p payload i) refl
+  pub no_part : ¬ (r.number ≡ 0) → r.number ≡ at_job
+  unfolding bad_job first
+  no_part h = go (bad_write p payload i) refl
     where
-      go : (t : Bool) → badWrite p payload i ≡ t → r.number ≡ atJob
+      go : (t : Bool) → bad_write p payload i ≡ t → r.number ≡ at_job
       go true e = job_is true e ∙ sym (rw e)
       go false e = absurd (h (job_is false e))
 
   module _ (w : ℕ) (z : r.number ≡ 0) (ew : w ≡ width p r.unit) where
-    good : badWrite p payload i ≡ false
-    good = part-good found z
+    good : bad_write p payload i ≡ false
+    good = part_good found z
 
-    wide : width p (writeAt p payload i).unit ≡ w
+    wide : width p (write_at p payload i).unit ≡ w
     wide = ap (width p) (sym (found.unit z)) ∙ sym ew
 
-    pub all_made : 2 * w + 3 ≤ made → 4 ≡ atJob
-    unfolding badJob
-    all_made h = sym (first-stop 4 _ [] (rw (good, wide) (le-leb (2 * w + 3) made h)))
+    pub all_made_lem : 2 * w + 3 ≤ made → 4 ≡ at_job
+    unfolding bad_job
+    all_made_lem h = sym (first_stop 4 _ [] (rw (good, wide) (le-leb (2 * w + 3) made h)))
 
-    pub not_made : made < 2 * w + 3 → 0 ≡ atJob
-    unfolding badJob
-    not_made h = sym (first-skip 4 _ [] (rw (good, wide) (lt-leb (2 * w + 3) made h)) ∙ first-none)
+    pub not_made : made < 2 * w + 3 → 0 ≡ at_job
+    unfolding bad_job
+    not_made h = sym (first_skip 4 _ [] (rw (good, wide) (lt-leb (2 * w + 3) made h)) ∙ first_none)
 
 -- ---- a unit looked up: r is the code's, part by part
-pub spanned : (p : Plan) (u : ℕ) (r : Span) → r.number ≡ 0 → r.base ≡ base p u → r.end ≡ base p u + unitLength p u
-    → r.a ≡ offset p u (byte copyA 0) → r.b ≡ offset p u (byte copyB 0) → r.width ≡ width p u → r ≡ span_of p u
+pub spanned : (p : Plan) (u : ℕ) (r : Span) → r.number ≡ 0 → r.base ≡ base p u → r.end ≡ base p u + unit_length p u
+    → r.a ≡ offset p u (byte copy_a 0) → r.b ≡ offset p u (byte copy_b 0) → r.width ≡ width p u → r ≡ span_of p u
 spanned p u r number begins ends first second wide =
     λ i. record { base = begins i; end = ends i; a = first i; b = second i; width = wide i; number = number i }
 
 -- n is measure's number, b its total
 module _ (p : Plan) (u length : ℕ) (r : Span) where
-  unspanned : (k : ℕ) → r.number ≡ suc k → ((late : Bool) → suc k ≡ jobRow p u length late) → Spans p u length r
+  unspanned : (k : ℕ) → r.number ≡ suc k → ((late : Bool) → suc k ≡ job_row p u length late) → Spans p u length r
   unspanned k e is =
       record {
         refused = λ h late. e ∙ is late;
@@ -110,27 +110,27 @@ module _ (p : Plan) (u length : ℕ) (r : Span) where
         is = λ z. absurd (omega arith);
       }
 
-  pub no-plan : (n : ℕ) → n ≡ startNumber p → ¬ (n ≡ 0) → r.number ≡ n → Spans p u length r
-  unfolding startNumber
-  no-plan zero is h e = absurd (h refl)
-  no-plan (suc n) is h e = unspanned n e (λ late. is ∙ sym (first-refused _ _ (λ z. absurd (omega (arith, is ∙ z)))))
+  pub no_plan_lem : (n : ℕ) → n ≡ start_number p → ¬ (n ≡ 0) → r.number ≡ n → Spans p u length r
+  unfolding start_number
+  no_plan_lem zero is h e = absurd (h refl)
+  no_plan_lem (suc n) is h e = unspanned n e (λ late. is ∙ sym (first_refused _ _ (λ z. absurd (omega (arith, is ∙ z)))))
 
-  module _ (n b : ℕ) (is : n ≡ startNumber p) (z : n ≡ 0) (t : b ≡ total p) where
-    pub no_room : length < b → r.number ≡ SHORT-IMAGE → Spans p u length r
-    no_room h e =
-        unspanned 2 e (λ late. sym (plan-passed p _ (sym is ∙ z) ∙ first-stop 3 _ _ (lt-ltb length (total p) (rw t at h))))
+  module _ (n b : ℕ) (is : n ≡ start_number p) (z : n ≡ 0) (t : b ≡ total p) where
+    pub no_room_lem : length < b → r.number ≡ SHORT-IMAGE → Spans p u length r
+    no_room_lem h e =
+        unspanned 2 e (λ late. sym (plan_passed p _ (sym is ∙ z) ∙ first_stop 3 _ _ (lt-ltb length (total p) (rw t at h))))
 
-    pub no-unit : b ≤ length → p.count ≤ u → r.number ≡ BAD-JOB → Spans p u length r
-    no-unit l h e =
+    pub no_unit_lem : b ≤ length → p.count ≤ u → r.number ≡ BAD-JOB → Spans p u length r
+    no_unit_lem l h e =
         unspanned 3 e
-        (λ late. sym (plan-passed p _ (sym is ∙ z) ∙ first-skip 3 _ _ (le-ltb length (total p) (rw t at l))
-        ∙ first-stop 4 _ _ (rw (le-leb p.count u h))))
+        (λ late. sym (plan_passed p _ (sym is ∙ z) ∙ first_skip 3 _ _ (le-ltb length (total p) (rw t at l))
+        ∙ first_stop 4 _ _ (rw (le-leb p.count u h))))
 
     pub spans : b ≤ length → u < p.count → r ≡ span_of p u → Spans p u length r
     spans l h e =
         record {
           refused = λ q late. absurd (q (ap (λ (s : Span). s.number) e));
-          plan = λ _. start-says p (sym is ∙ z);
+          plan = λ _. start_says p (sym is ∙ z);
           long = λ _. rw t at l;
           unit = λ _. h;
           is = λ _. e;
@@ -138,37 +138,37 @@ module _ (p : Plan) (u length : ℕ) (r : Span) where
 
 -- ---- what a unit that was looked up has
 module _ (p : Plan) (ok : PlanOk p) (u : ℕ) (h : u < p.count) where
-  pub span-sound : (r : Span) → r ≡ span_of p u → Sound r
-  span-sound r is =
+  pub span_sound : (r : Span) → r ≡ span_of p u → Sound r
+  span_sound r is =
       rw is
       (record {
-        narrow = (width-bounds p ok u h).1;
-        page = subst PageSize (omega arith) (page-fits p ok.page);
-        marker = omega (arith, page-some p ok);
-        copies = omega (arith, copy-room p ok u);
-        ends = omega (arith, copy-room p ok u);
-        most = omega (arith, base-small p ok u (omega arith), unit-small p ok u h, (count-bounds p ok).1);
+        narrow = (width_bounds p ok u h).1;
+        page = subst PageSize (omega arith) (page_fits p ok.page);
+        marker = omega (arith, page_some p ok);
+        copies = omega (arith, copy_room p ok u);
+        ends = omega (arith, copy_room p ok u);
+        most = omega (arith, base_small p ok u (omega arith), unit_small p ok u h, (count_bounds p ok).1);
       })
 
-  pub span-inside : (n : ℕ) (r : Span) → total p ≤ n → r ≡ span_of p u → r.end ≤ n
-  span-inside n r l is = rw is (omega (arith, base-bound p ok u p.count h))
+  pub span_inside : (n : ℕ) (r : Span) → total p ≤ n → r ≡ span_of p u → r.end ≤ n
+  span_inside n r l is = rw is (omega (arith, base_bound p ok u p.count h))
 
   -- the lookup doesn't refuse what the row lets pass
-  pub looked-up : (n : ℕ) (r : Span) → total p ≤ n → Spans p u n r → r.number ≡ 0
-  looked-up n r l s =
+  pub looked_up : (n : ℕ) (r : Span) → total p ≤ n → Spans p u n r → r.number ≡ 0
+  looked_up n r l s =
       elim (same r.number 0) [
         | equal e ↦ e
         | differ q ↦
             s.refused q false
-            ∙ plan-passed p _ (start_fine p ok) ∙ first-skip 3 _ _ (le-ltb n (total p) l)
-            ∙ first-skip 4 _ _ (rw (lt-leb p.count u h)) ∙ first-none
+            ∙ plan_passed p _ (start_fine p ok) ∙ first_skip 3 _ _ (le-ltb n (total p) l)
+            ∙ first_skip 4 _ _ (rw (lt-leb p.count u h)) ∙ first_none
       ]
 
 -- ---- what a device that refusals 1 to 4 let pass has
 pub record Room (p : Plan) (payload : List ℕ) (phase : Phase) (image : List ℕ) : Type 0 where
   pub ok : PlanOk p
   pub long : total p ≤ length image
-  pub job : badJob p payload (job_of phase) ≡ false
+  pub job : bad_job p payload (job_of phase) ≡ false
 
 pub room : (p : Plan) (payload : List ℕ) (phase : Phase) (image : List ℕ) → Live p payload phase image → Room p payload phase image
 room p payload phase image e =
@@ -176,9 +176,9 @@ room p payload phase image e =
     record { ok = h.plan; long = ltb-false (length image) (total p) h.long; job = h.job }
 
 -- the part of the image that is copy A of a unit that was looked up
-pub copy-part : (p : Plan) (image : List ℕ) (u : ℕ) (q : Span) → q ≡ span_of p u
-    → take ((q.base + q.a + q.width) - (q.base + q.a)) (drop (q.base + q.a) image) ≡ copy_of p image u copyA
+pub copy_part : (p : Plan) (image : List ℕ) (u : ℕ) (q : Span) → q ≡ span_of p u
+    → take ((q.base + q.a + q.width) - (q.base + q.a)) (drop (q.base + q.a) image) ≡ copy_of p image u copy_a
 unfolding copy_of
-copy-part p image u q is =
+copy_part p image u q is =
     let size : (q.base + q.a + q.width) - (q.base + q.a) ≡ width p u = omega (arith, ap (λ (t : Span). t.width) is) in
     ap₂ (λ (n i : ℕ). take n (drop i image)) size (ap (λ (t : Span). t.base + t.a) is)

@@ -3,8 +3,8 @@ use Rattle.std.specs.Prelude.{ℕ, ◌+◌, ◌<◌, ◌≤◌, ◌≡◌, List,
 use Rattle.lookup.specs.declared.Span.{Span}
 use Rattle.model.specs.declared.Phase.{Phase}
 use Rattle.model.specs.declared.Plan.{Plan}
-use Rattle.model.specs.Layout.{copyA, copyB, byte, width, unitLength, offset, base, total}
-use Rattle.model.specs.Refusals.{SHORT-IMAGE, BAD-JOB, Refusal, ◌when◌, first, planRow, firstFour}
+use Rattle.model.specs.Layout.{copy_a, copy_b, byte, width, unit_length, offset, base, total}
+use Rattle.model.specs.Refusals.{SHORT-IMAGE, BAD-JOB, Refusal, ◌when◌, first, plan_row, first_four}
 use Rattle.model.specs.Calls.{job_of}
 use Rattle.model.proofs.RefusalLaws.{PlanOk}
 use Rattle.model.specs.Plans.{PageSize}
@@ -14,27 +14,27 @@ abbrev pub span_of : Plan → ℕ → Span
 span_of p u =
     record {
       base = base p u;
-      end = base p u + unitLength p u;
-      a = offset p u (byte copyA 0);
-      b = offset p u (byte copyB 0);
+      end = base p u + unit_length p u;
+      a = offset p u (byte copy_a 0);
+      b = offset p u (byte copy_b 0);
       width = width p u;
       number = 0;
     }
 
 -- refusals 1 to 4 and 17, for an image of n bytes
-abbrev pub imageRow : Plan → List ℕ → Phase → ℕ → List Refusal
-imageRow p payload phase n = firstFour p (ltb n (total p)) payload (job_of phase)
+abbrev pub image_row : Plan → List ℕ → Phase → ℕ → List Refusal
+image_row p payload phase n = first_four p (ltb n (total p)) payload (job_of phase)
 
 -- they do not apply
 abbrev pub Live : Plan → List ℕ → Phase → List ℕ → Type 0
-Live p payload phase image = first (imageRow p payload phase (length image)) ≡ 0
+Live p payload phase image = first (image_row p payload phase (length image)) ≡ 0
 
 -- the row of a job at unit u; `late` is what refusal 4 says of its stores
-abbrev pub jobRow : Plan → ℕ → ℕ → Bool → ℕ
-jobRow p u n late = first (planRow p ++ (SHORT-IMAGE when ltb n (total p) ∷ BAD-JOB when (leb p.count u || late) ∷ []))
+abbrev pub job_row : Plan → ℕ → ℕ → Bool → ℕ
+job_row p u n late = first (plan_row p ++ (SHORT-IMAGE when ltb n (total p) ∷ BAD-JOB when (leb p.count u || late) ∷ []))
 
 pub record Spans (p : Plan) (u n : ℕ) (r : Span) : Type 0 where
-  pub refused : ¬ (r.number ≡ 0) → (late : Bool) → r.number ≡ jobRow p u n late
+  pub refused : ¬ (r.number ≡ 0) → (late : Bool) → r.number ≡ job_row p u n late
   pub plan : r.number ≡ 0 → PlanOk p
   pub long : r.number ≡ 0 → total p ≤ n
   pub unit : r.number ≡ 0 → u < p.count

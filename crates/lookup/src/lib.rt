@@ -3,8 +3,8 @@
 ghost use Rattle.std.specs.Prelude.{◌≡◌, ◌||◌, [], ◌∷◌, leb, ◌≤◌};
 ghost use Rattle.model.specs.Plans.{width};
 ghost use Rattle.model.specs.Groups.{last};
-ghost use Rattle.model.specs.Refusals.{grouping, badJob, ◌when◌, first, startNumber};
-ghost use Rattle.lookup.specs.Spans.{imageRow, Spans};
+ghost use Rattle.model.specs.Refusals.{grouping, bad_job, ◌when◌, first, start_number};
+ghost use Rattle.lookup.specs.Spans.{image_row, Spans};
 
 use group::part_of;
 use layout::{copy_length, measure, width_of};
@@ -13,7 +13,7 @@ use model::{Phase, Plan};
 
 // 0, or the first of refusals 1, 2 and 17.
 pub fn plan_number(plan: Plan) -> u16
-    ensures { result ≡ startNumber plan }
+    ensures { result ≡ start_number plan }
 {
     let whole = measure(plan, 0);
     whole.number
@@ -90,7 +90,7 @@ fn job_number(plan: Plan, unit: u16, made: u16, total: u32) -> u16
 // The same of a group: a write that its payload hasn't, or with as many stores made as it has.
 fn group_number(plan: Plan, payload: &[u8; 256], write: u16, made: u16) -> u16
     requires { width plan (last plan) ≤ 256 }
-    ensures { result ≡ first (4 when badJob plan payload.now (grouping write made) ∷ []) }
+    ensures { result ≡ first (4 when bad_job plan payload.now (grouping write made) ∷ []) }
 {
     let part = part_of(plan, payload, write);
     let number = part.number;
@@ -106,7 +106,7 @@ fn group_number(plan: Plan, payload: &[u8; 256], write: u16, made: u16) -> u16
 
 // 0, or the lowest of the refusals 1 to 4, for an image of `length` bytes. The payload is looked at in a group phase only.
 pub fn device_number(plan: Plan, payload: &[u8; 256], phase: Phase, length: usize) -> u16
-    ensures { result ≡ first (imageRow plan payload.now phase length) }
+    ensures { result ≡ first (image_row plan payload.now phase length) }
 {
     let whole = measure(plan, 0);
     let number = whole.number;

@@ -9,11 +9,11 @@ use Rattle.model.specs.declared.Direction.TheVariants.{AToB}
 use Rattle.model.specs.Marker.{OK, A, B, FOREIGN, is_foreign, direction}
 use Rattle.model.proofs.Compare.{below, above, order, equal, differ, same}
 use Rattle.marker.specs.declared.Marker.TheVariants.{Clean, WritingToA, WritingToB, Corrupted, Foreign}
-use Rattle.marker.specs.Meaning.{meaning, saysForeign, way}
+use Rattle.marker.specs.Meaning.{meaning, says_foreign, way}
 
-pub meaning-foreign : (m : ℕ) → saysForeign (meaning m) ≡ is_foreign m
+pub meaning_foreign : (m : ℕ) → says_foreign (meaning m) ≡ is_foreign m
 unfolding meaning
-meaning-foreign m =
+meaning_foreign m =
     elim (order m 8) [
       | below l ↦ rw (lt-ltb m FOREIGN (omega arith)) (ours (eqb m OK) (eqb m A) (eqb m B)) ∙ sym (lt-leb FOREIGN m (omega arith))
       | above l ↦
@@ -21,15 +21,15 @@ meaning-foreign m =
           (sym (le-leb FOREIGN m (omega arith)))
     ]
   where
-    ours : (t s r : Bool) → saysForeign (cond t Clean (cond s WritingToA (cond r WritingToB Corrupted))) ≡ false
+    ours : (t s r : Bool) → says_foreign (cond t Clean (cond s WritingToA (cond r WritingToB Corrupted))) ≡ false
     ours true s r = refl
     ours false true r = refl
     ours false false true = refl
     ours false false false = refl
 
-pub meaning-way : (m : ℕ) → way (meaning m) ≡ direction m
+pub meaning_way : (m : ℕ) → way (meaning m) ≡ direction m
 unfolding meaning direction
-meaning-way m =
+meaning_way m =
     elim (same m A) [
       | equal e ↦ rw e
       | differ h ↦ rw (ne_eqb m A h) (others (eqb m OK) (eqb m B) (ltb m FOREIGN))

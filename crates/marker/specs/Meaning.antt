@@ -12,12 +12,12 @@ meaning byte =
     cond (eqb byte OK) Clean
     (cond (eqb byte A) WritingToA (cond (eqb byte B) WritingToB (cond (ltb byte FOREIGN) Corrupted Foreign)))
 
-abbrev pub saysForeign : Marker → Bool
-saysForeign Clean = false
-saysForeign WritingToA = false
-saysForeign WritingToB = false
-saysForeign Corrupted = false
-saysForeign Foreign = true
+abbrev pub says_foreign : Marker → Bool
+says_foreign Clean = false
+says_foreign WritingToA = false
+says_foreign WritingToB = false
+says_foreign Corrupted = false
+says_foreign Foreign = true
 
 -- "A copies B to A; B and X copy A to B."
 abbrev pub way : Marker → Direction

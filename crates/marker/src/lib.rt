@@ -1,7 +1,7 @@
 // The marker byte in code: its three codes, what a byte says of its unit, and which way a cleanup copies.
 ghost use Rattle.std.specs.Prelude.{◌≡◌};
 ghost use Rattle.model.specs.Marker.{direction};
-ghost use Rattle.marker.specs.Meaning.{meaning, saysForeign};
+ghost use Rattle.marker.specs.Meaning.{meaning, says_foreign};
 
 use model::Direction;
 
@@ -39,7 +39,7 @@ impl Marker {
 
     // Left by another product: no store of this one, completed or torn, leaves such a byte.
     pub fn is_foreign(self) -> bool
-        ensures { result ≡ saysForeign self }
+        ensures { result ≡ says_foreign self }
     {
         match self {
             Marker::Clean => false,

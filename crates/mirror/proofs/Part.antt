@@ -6,8 +6,8 @@ use native.Mathlib.Omega.{arith}
 use lib.ListN.{length, get_or, take, drop, set, take-append-drop, length-take, length-drop, length-set}
 use lib.Seq.{sets, set-append_left, take-set-le, take-set-lt, drop-set-add, drop-set-lt, get_or-drop, take_all}
 
-set-behind : (xs : List ℕ) (a i x : ℕ) → a ≤ length xs → set xs (a + i) x ≡ take a xs ++ set (drop a xs) i x
-set-behind xs a i x h =
+set_behind : (xs : List ℕ) (a i x : ℕ) → a ≤ length xs → set xs (a + i) x ≡ take a xs ++ set (drop a xs) i x
+set_behind xs a i x h =
     sym (take-append-drop a (set xs (a + i) x)) ∙ (rw (take-set-le a xs (a + i) x (omega arith), drop-set-add a xs i x))
 
 -- a run of stores, one more
@@ -23,26 +23,26 @@ sets_more (v ∷ vs) xs a (suc i) h =
     rw (e, f) (sets_more vs (set xs a v) (suc a) i (omega arith))
 
 -- the page of a page after its first, stored one by one: i of the page's page are stored
-pub tear-more : (xs page : List ℕ) (from i : ℕ) → 1 ≤ i → i < length page
+pub tear_more : (xs page : List ℕ) (from i : ℕ) → 1 ≤ i → i < length page
     → set (sets xs (suc from) (take (i - 1) (drop 1 page))) (from + i) (get_or page i 0)
     ≡ sets xs (suc from) (take ((i + 1) - 1) (drop 1 page))
-tear-more xs page from i h l =
+tear_more xs page from i h l =
     let place : from + i ≡ suc from + (i - 1) = omega arith in
     let byte : get_or page i 0 ≡ get_or (drop 1 page) (i - 1) 0 =
     ap (λ (k : ℕ). get_or page k 0) (omega arith) ∙ sym (get_or-drop 1 page (i - 1) 0) in
     let next : (i + 1) - 1 ≡ (i - 1) + 1 = omega arith in
     rw (place, byte, next) (sym (sets_more (drop 1 page) xs (suc from) (i - 1) (omega (arith, length-drop 1 page))))
 
-pub tear-all : (xs page : List ℕ) (from i : ℕ) → length page ≤ i
+pub tear_all : (xs page : List ℕ) (from i : ℕ) → length page ≤ i
     → sets xs (suc from) (take (i - 1) (drop 1 page)) ≡ sets xs (suc from) (drop 1 page)
-tear-all xs page from i h =
+tear_all xs page from i h =
     ap (sets xs (suc from)) (take_all (i - 1) (drop 1 page) (omega (arith, length-drop 1 page)))
 
 -- a run of stores in a part of a list is a run of stores in the list
-pub sets-part : (vs xs : List ℕ) (a k i : ℕ) → a + k ≤ length xs → i + length vs ≤ k
+pub sets_part : (vs xs : List ℕ) (a k i : ℕ) → a + k ≤ length xs → i + length vs ≤ k
     → take a xs ++ (sets (take k (drop a xs)) i vs ++ drop k (drop a xs)) ≡ sets xs (a + i) vs
-sets-part [] xs a k i h l = ap (λ (t : List ℕ). take a xs ++ t) (take-append-drop k (drop a xs)) ∙ take-append-drop a xs
-sets-part (v ∷ vs) xs a k i h l =
+sets_part [] xs a k i h l = ap (λ (t : List ℕ). take a xs ++ t) (take-append-drop k (drop a xs)) ∙ take-append-drop a xs
+sets_part (v ∷ vs) xs a k i h l =
     let ys : List ℕ = set xs (a + i) v in
     let before : take a ys ≡ take a xs = take-set-le a xs (a + i) v (omega arith) in
     let part : take k (drop a ys) ≡ set (take k (drop a xs)) i v =
@@ -50,13 +50,13 @@ sets-part (v ∷ vs) xs a k i h l =
     let after : drop k (drop a ys) ≡ drop k (drop a xs) =
     ap (drop k) (drop-set-add a xs i v) ∙ drop-set-lt k (drop a xs) i v (omega arith) in
     let next : a + suc i ≡ suc (a + i) = omega arith in
-    let rest = sets-part vs ys a k (suc i) (omega (arith, length-set xs (a + i) v)) (omega arith) in
+    let rest = sets_part vs ys a k (suc i) (omega (arith, length-set xs (a + i) v)) (omega arith) in
     rw (before, part, after, next) at rest
 
-pub set-part : (xs : List ℕ) (a k i x : ℕ) → a + k ≤ length xs → i < k
+pub set_part : (xs : List ℕ) (a k i x : ℕ) → a + k ≤ length xs → i < k
     → take a xs ++ (set (take k (drop a xs)) i x ++ drop k (drop a xs)) ≡ set xs (a + i) x
-set-part xs a k i x h l =
+set_part xs a k i x h l =
     ap (λ (t : List ℕ). take a xs ++ t)
     (sym (set-append_left (take k (drop a xs)) (drop k (drop a xs)) i x (simp (length-take, length-drop) (omega arith)))
     ∙ ap (λ (t : List ℕ). set t i x) (take-append-drop k (drop a xs)))
-    ∙ sym (set-behind xs a i x (omega arith))
+    ∙ sym (set_behind xs a i x (omega arith))

@@ -2,12 +2,12 @@
 ghost use Rattle.std.specs.Prelude.{◌≡◌, ◌∷◌, ◌+◌, ◌<◌, ◌≤◌, length, set, drop};
 ghost use Rattle.std.proofs.lemmas.List.Edits.{sets};
 ghost use Rattle.model.specs.declared.Phase.TheVariants.{Grouping};
-ghost use Rattle.model.specs.Marker.{torn, tornBy};
-ghost use Rattle.model.specs.Refusals.{cutNumber};
+ghost use Rattle.model.specs.Marker.{torn, torn_by};
+ghost use Rattle.model.specs.Refusals.{cut_number};
 ghost use Rattle.model.specs.Stores.{stored};
 ghost use Rattle.model.specs.Calls.{view_of, next};
 ghost use Rattle.lookup.specs.Spans.{Sound};
-ghost use Rattle.mirror.specs.Tears.{firstLeft, pageFrom, tornIn};
+ghost use Rattle.mirror.specs.Tears.{first_left, page_from, torn_in};
 
 use choice::{clean_choice, write_choice};
 use group::part_of;
@@ -41,7 +41,7 @@ fn torn_marker(old: u8, new: u8, m: u8) -> u8
 
 // What a cut leaves of a page's first byte: a torn marker goes bit by bit, a data byte is m.
 fn torn_byte(at: u32, old: u8, new: u8, m: u8) -> u8
-    ensures { result ≡ firstLeft at old new m }
+    ensures { result ≡ first_left at old new m }
 {
     if at == 0 { torn_marker(old, new, m) } else { m }
 }
@@ -61,9 +61,9 @@ fn put_page(span: &mut [u8], from: usize, first: u8, page: &[u8])
 
 // Tears a store in a unit: the page around it. An offset's bits inside a page are taken off by a mask, as in `layout`.
 fn tear_at(image: &mut [u8], span: Span, at: u32, byte: u8, page: &[u8])
-    requires { Sound span × (length page.now ≡ span.a) × (span.base + pageFrom span at + span.a ≤ span.end)
+    requires { Sound span × (length page.now ≡ span.a) × (span.base + page_from span at + span.a ≤ span.end)
         × (span.end ≤ length image.old) }
-    ensures { image.new ≡ tornIn span at byte page.now image.old }
+    ensures { image.new ≡ torn_in span at byte page.now image.old }
 {
     let first = span.base as usize;
     let past = span.end as usize;
@@ -74,9 +74,9 @@ fn tear_at(image: &mut [u8], span: Span, at: u32, byte: u8, page: &[u8])
 
 // Tears the next store of a group.
 fn tear_group(plan: Plan, payload: &[u8], write: u16, made: u16, image: &mut [u8], page: &[u8])
-    requires { (cutNumber (view_of plan payload.now (Grouping write made) image.old) (length page.now) ≡ 0)
+    requires { (cut_number (view_of plan payload.now (Grouping write made) image.old) (length page.now) ≡ 0)
         × (length payload.now ≡ 256) }
-    ensures { image.new ≡ stored plan image.old (tornBy page.now)
+    ensures { image.new ≡ stored plan image.old (torn_by page.now)
         (next plan payload.now image.old (Grouping write made)) }
 {
     let part = part_of(plan, payload, write);
@@ -88,8 +88,8 @@ fn tear_group(plan: Plan, payload: &[u8], write: u16, made: u16, image: &mut [u8
 
 // Tears the next store of a phase, of which Cold and Ready have none. The cut is one that is not refused.
 pub fn tear_on(plan: Plan, payload: &[u8; 256], phase: Phase, image: &mut [u8], page: &[u8])
-    requires { cutNumber (view_of plan payload.now phase image.old) (length page.now) ≡ 0 }
-    ensures { image.new ≡ stored plan image.old (tornBy page.now)
+    requires { cut_number (view_of plan payload.now phase image.old) (length page.now) ≡ 0 }
+    ensures { image.new ≡ stored plan image.old (torn_by page.now)
         (next plan payload.now image.old phase) }
 {
     match phase {

@@ -1,22 +1,22 @@
 -- The definitions give every row of specs/CasesOfPaidRides.antt.
 use mathlib.Core.Path.{refl}
-use Rattle.model.specs.Marker.{tornBits, torn}
-use Rattle.model.specs.Layout.{wholePages, base, get, copy_of}
-use Rattle.model.specs.Turns.{amount, inBytes, plus}
-use Rattle.model.specs.Prices.{price, paidGroup}
-use Rattle.model.specs.Groups.{split, joined, splits, memberCount, members, unsplit, among, twice, overlaps, narrow, fits, payloadOf, groupIn, alike, given, stands, remaining, writes, nth, writeAt, isLastWrite}
-use Rattle.model.specs.Refusals.{badCount, badWidths, badPage, badWrite, badJob, first, stepNumber, cutNumber, wakeNumber, anyForeign, paidNumber}
+use Rattle.model.specs.Marker.{torn_bits, torn}
+use Rattle.model.specs.Layout.{whole_pages, base, get, copy_of}
+use Rattle.model.specs.Turns.{amount, in_bytes, plus}
+use Rattle.model.specs.Prices.{price, paid_group}
+use Rattle.model.specs.Groups.{split, joined, splits, member_count, members, unsplit, among, twice, overlaps, narrow, fits, payload_of, group_in, alike, given, stands, remaining, writes, nth, write_at, is_last_write}
+use Rattle.model.specs.Refusals.{bad_count, bad_widths, bad_page, bad_write, bad_job, first, step_number, cut_number, wake_number, any_foreign, paid_number}
 use Rattle.model.specs.Calls as calls
-use Rattle.model.specs.Ledger.{opening, markerOf, told, writeMarker, saving, savingAll, countWith, accepted, fed, tells, after}
+use Rattle.model.specs.Ledger.{opening, marker_of, told, write_marker, saving, saving_all, count_with, accepted, fed, tells, after}
 use Rattle.model.specs.Totals.{passed}
 use Rattle.model.specs.CasesOfPaidRides.{EveryPrice, EveryFare, EveryPaidNumber, EveryBegun, EveryTaking}
 
-pub every-price : EveryPrice
+pub every_price : EveryPrice
 unfolding price
-every-price =
+every_price =
     record {
-      noTurns = refl;
-      oneTurn = refl;
+      no_turns = refl;
+      one_turn = refl;
       of500 = refl;
       of501 = refl;
       of1000 = refl;
@@ -27,53 +27,53 @@ every-price =
       most = refl;
     }
 
-pub every-fare : EveryFare
-unfolding amount inBytes plus price paidGroup
-every-fare = refl
+pub every_fare : EveryFare
+unfolding amount in_bytes plus price paid_group
+every_fare = refl
 
-pub every-paid-number : EveryPaidNumber
-unfolding amount price wholePages base get copy_of badCount badWidths badPage badJob first paidNumber calls.paidRide
-every-paid-number =
+pub every_paid_number : EveryPaidNumber
+unfolding amount price whole_pages base get copy_of bad_count bad_widths bad_page bad_job first paid_number calls.paid_ride
+every_paid_number =
     record {
-      noUnit = refl;
+      no_unit = refl;
       no_width = refl;
       short = refl;
-      jobOfNoUnit = refl;
-      inCold = refl;
-      narrowTurns = refl;
-      narrowCents = refl;
-      wideCents = refl;
-      noUnit1 = refl;
-      wideRecord = refl;
-      unit1IsRecord = refl;
-      noRecord = refl;
-      narrowRecord = refl;
-      recordMarker = refl;
-      turnsMarker = refl;
-      centsMarker = refl;
-      turnsFull = refl;
-      centsFull = refl;
-      centsFit = refl;
-      centsOneTooMany = refl;
-      nothingToAdd = refl;
+      job_of_no_unit = refl;
+      in_cold = refl;
+      narrow_turns = refl;
+      narrow_cents = refl;
+      wide_cents = refl;
+      no_unit1 = refl;
+      wide_record = refl;
+      unit1_is_record = refl;
+      no_record = refl;
+      narrow_record = refl;
+      record_marker = refl;
+      turns_marker = refl;
+      cents_marker = refl;
+      turns_full = refl;
+      cents_full = refl;
+      cents_fit = refl;
+      cents_one_too_many = refl;
+      nothing_to_add = refl;
       longest = refl;
     }
 
-pub every-begun : EveryBegun
-unfolding amount inBytes plus price paidGroup wholePages base get copy_of splits memberCount payloadOf badCount badWidths badPage badJob first paidNumber calls.paidRide
-every-begun = refl
+pub every_begun : EveryBegun
+unfolding amount in_bytes plus price paid_group whole_pages base get copy_of splits member_count payload_of bad_count bad_widths bad_page bad_job first paid_number calls.paid_ride
+every_begun = refl
 
-pub every-taking : EveryTaking
-unfolding tornBits torn amount inBytes plus price paidGroup split joined splits memberCount members unsplit among twice overlaps narrow fits payloadOf groupIn alike given stands remaining writes nth writeAt isLastWrite badCount badWidths badPage badWrite badJob first stepNumber cutNumber wakeNumber anyForeign paidNumber opening markerOf told writeMarker saving savingAll countWith accepted fed tells after passed
-every-taking =
+pub every_taking : EveryTaking
+unfolding torn_bits torn amount in_bytes plus price paid_group split joined splits member_count members unsplit among twice overlaps narrow fits payload_of group_in alike given stands remaining writes nth write_at is_last_write bad_count bad_widths bad_page bad_write bad_job first step_number cut_number wake_number any_foreign paid_number opening marker_of told write_marker saving saving_all count_with accepted fed tells after passed
+every_taking =
     record {
       before = refl;
       passed = refl;
-      tornToA = refl;
-      tornOff = refl;
-      refusedNext = refl;
-      savedNone = refl;
-      savedBoth = refl;
-      ofNoTurns = refl;
+      torn_to_a = refl;
+      torn_off = refl;
+      refused_next = refl;
+      saved_none = refl;
+      saved_both = refl;
+      of_no_turns = refl;
       told = refl;
     }

@@ -4,7 +4,7 @@ use mathlib.Core.Path.{◌≡◌, refl, ap, sym, ◌∙◌}
 use mathlib.Core.List.{List}
 use lib.ListN.{replicate}
 use borrow.Author.Tests.{eq-eqb, ne_eqb}
-use Rattle.model.specs.Refusals.{stepNumber}
+use Rattle.model.specs.Refusals.{step_number}
 use Rattle.model.specs.Calls.{Device, Outcome, outcome, view}
 use Rattle.model.specs.Calls as calls
 use Rattle.model.specs.Ledger.{step}
@@ -14,9 +14,9 @@ use Rattle.model.specs.Steps.{steps, StepsAreCalls}
 
 again : (d : Device) (image : List ℕ) → ¬ ((calls.step d image).number ≡ 0) → call step (calls.step d image) ≡ calls.step d image
 unfolding call calls.step
-again d image h = go (stepNumber (view d image)) refl
+again d image h = go (step_number (view d image)) refl
   where
-    go : (k : ℕ) → stepNumber (view d image) ≡ k → call step (calls.step d image) ≡ calls.step d image
+    go : (k : ℕ) → step_number (view d image) ≡ k → call step (calls.step d image) ≡ calls.step d image
     go zero e = absurd (h (rw e))
     go (suc k) e = rw e (rw e)
 
@@ -25,13 +25,13 @@ unfolding run
 stays zero o e = refl
 stays (suc n) o e = ap (run (replicate n step)) e ∙ stays n o e
 
-pub steps-run : StepsAreCalls
+pub steps_run : StepsAreCalls
 unfolding steps run call
-steps-run zero d image = refl
-steps-run (suc n) d image =
+steps_run zero d image = refl
+steps_run (suc n) d image =
     let o : Outcome = calls.step d image in
     elim (same o.number 0) [
       | equal e ↦ rw (eq-eqb o.number 0 e)
-          (steps-run n o.device o.image ∙ ap (λ (k : ℕ). run (replicate n step) (outcome k o.device o.image)) (sym e))
+          (steps_run n o.device o.image ∙ ap (λ (k : ℕ). run (replicate n step) (outcome k o.device o.image)) (sym e))
       | differ e ↦ rw (ne_eqb o.number 0 e) (sym (stays n o (again d image e)))
     ]

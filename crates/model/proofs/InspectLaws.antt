@@ -8,7 +8,7 @@ use borrow.Author.Tests.{eq-eqb, ne_eqb}
 use Rattle.model.specs.declared.Plan.{Plan}
 use Rattle.model.specs.Marker.{OK}
 use Rattle.model.specs.Layout.{marker, get}
-use Rattle.model.specs.Calls.{AllMarkersOk, lowestBad}
+use Rattle.model.specs.Calls.{AllMarkersOk, lowest_bad}
 use Rattle.model.proofs.Compare.{equal, differ, same}
 
 module _ (p : Plan) (image : List ℕ) where
@@ -28,12 +28,12 @@ module _ (p : Plan) (image : List ℕ) where
   here : (u n : ℕ) → ¬ Good u → Lowest u (suc n) (some u)
   here u n h = (omega arith, omega arith, h, λ v l m. absurd (omega arith))
 
-  pub lowest-among : (n u : ℕ) → Lowest u n (lowestBad p image n u)
-  unfolding lowestBad
-  lowest-among zero u = λ v l h. absurd (omega arith)
-  lowest-among (suc n) u =
+  pub lowest_among : (n u : ℕ) → Lowest u n (lowest_bad p image n u)
+  unfolding lowest_bad
+  lowest_among zero u = λ v l h. absurd (omega arith)
+  lowest_among (suc n) u =
       elim (same (get p image u marker) OK) [
-        | equal e ↦ rw (eq-eqb (get p image u marker) OK e) (wider u n (lowestBad p image n (suc u)) e (lowest-among n (suc u)))
+        | equal e ↦ rw (eq-eqb (get p image u marker) OK e) (wider u n (lowest_bad p image n (suc u)) e (lowest_among n (suc u)))
         | differ h ↦ rw (ne_eqb (get p image u marker) OK h) (here u n h)
       ]
 
@@ -42,8 +42,8 @@ module _ (p : Plan) (image : List ℕ) where
   Names (some u) = (u < p.count) × ¬ Good u × ((v : ℕ) → v < u → Good v)
 
   -- "Inspect now names the lowest unit whose marker isn't 1"; "none exactly if all are 1"
-  pub names-lowest : Names (lowestBad p image p.count 0)
-  names-lowest = whole (lowestBad p image p.count 0) (lowest-among p.count 0)
+  pub names_lowest : Names (lowest_bad p image p.count 0)
+  names_lowest = whole (lowest_bad p image p.count 0) (lowest_among p.count 0)
     where
       whole : (found : Option ℕ) → Lowest 0 p.count found → Names found
       whole none t = λ v h. t v (omega arith) (omega arith)

@@ -7,8 +7,8 @@ use borrow.Author.Tests.{eqb-true, eq-eqb, ne_eqb}
 use Rattle.model.specs.declared.Rights.{Rights}
 use Rattle.model.specs.declared.Role.{Role}
 use Rattle.model.specs.declared.Role.TheVariants.{Rider, Gym, Service}
-use Rattle.model.specs.Rights.{SEE, SEE-AND-WRITE, right, maySee, may_write}
-use Rattle.model.specs.Demands.{granted, MaySee, MayWrite, sees, writesToo}
+use Rattle.model.specs.Rights.{SEE, SEE-AND-WRITE, right, may_see, may_write}
+use Rattle.model.specs.Demands.{granted, MaySee, MayWrite, sees, writes_too}
 use Rattle.model.proofs.Compare.{equal, differ, same}
 
 refuted : {P : Type 0} (b : Bool) → (b ≡ true → P) → ¬ P → b ≡ false
@@ -23,34 +23,34 @@ module _ (rights : Rights) where
   right_is Service u = refl
 
   module _ (role : Role) (u : ℕ) where
-    pub may-write : MayWrite rights role u → may_write rights role u ≡ true
+    pub may_write_lem : MayWrite rights role u → may_write rights role u ≡ true
     unfolding may_write
-    may-write h = eq-eqb (right rights role u) SEE-AND-WRITE (right_is role u ∙ h)
+    may_write_lem h = eq-eqb (right rights role u) SEE-AND-WRITE (right_is role u ∙ h)
 
-    pub write-may : may_write rights role u ≡ true → MayWrite rights role u
+    pub write_may : may_write rights role u ≡ true → MayWrite rights role u
     unfolding may_write
-    write-may h = sym (right_is role u) ∙ eqb-true (right rights role u) SEE-AND-WRITE h
+    write_may h = sym (right_is role u) ∙ eqb-true (right rights role u) SEE-AND-WRITE h
 
-    pub may-see : MaySee rights role u → maySee rights role u ≡ true
-    unfolding maySee
-    may-see (sees h) = ap (λ (b : Bool). b || may_write rights role u) (eq-eqb (right rights role u) SEE (right_is role u ∙ h))
-    may-see (writesToo h) =
-        ap (λ (b : Bool). eqb (right rights role u) SEE || b) (may-write h) ∙ or-true (eqb (right rights role u) SEE)
+    pub may_see_lem : MaySee rights role u → may_see rights role u ≡ true
+    unfolding may_see
+    may_see_lem (sees h) = ap (λ (b : Bool). b || may_write rights role u) (eq-eqb (right rights role u) SEE (right_is role u ∙ h))
+    may_see_lem (writes_too h) =
+        ap (λ (b : Bool). eqb (right rights role u) SEE || b) (may_write_lem h) ∙ or-true (eqb (right rights role u) SEE)
 
-    pub see-may : maySee rights role u ≡ true → MaySee rights role u
-    unfolding maySee
-    see-may h =
+    pub see_may : may_see rights role u ≡ true → MaySee rights role u
+    unfolding may_see
+    see_may h =
         elim (same (right rights role u) SEE) [
           | equal e ↦ sees (sym (right_is role u) ∙ e)
-          | differ e ↦ writesToo (write-may (ap (λ (b : Bool). b || may_write rights role u) (sym (ne_eqb (right rights role u) SEE e)) ∙ h))
+          | differ e ↦ writes_too (write_may (ap (λ (b : Bool). b || may_write rights role u) (sym (ne_eqb (right rights role u) SEE e)) ∙ h))
         ]
 
-    pub not_seen : ¬ MaySee rights role u → maySee rights role u ≡ false
-    not_seen h = refuted (maySee rights role u) see-may h
+    pub not_seen : ¬ MaySee rights role u → may_see rights role u ≡ false
+    not_seen h = refuted (may_see rights role u) see_may h
 
     pub not_written : ¬ MayWrite rights role u → may_write rights role u ≡ false
-    not_written h = refuted (may_write rights role u) write-may h
+    not_written h = refuted (may_write rights role u) write_may h
 
     -- see and write is a right to see as well
-    pub write-sees : may_write rights role u ≡ true → maySee rights role u ≡ true
-    write-sees h = may-see (writesToo (write-may h))
+    pub write_sees : may_write rights role u ≡ true → may_see rights role u ≡ true
+    write_sees h = may_see_lem (writes_too (write_may h))

@@ -9,25 +9,25 @@ use borrow.Author.Tests.{eq-eqb, ne_eqb, le-ltb, ltb-false, lt-leb, le-leb}
 use Rattle.model.specs.declared.Plan.{Plan}
 use Rattle.model.specs.declared.Phase.TheVariants.{Ready}
 use Rattle.model.specs.Marker.{OK, direction, completed}
-use Rattle.model.specs.Layout.{Copy, marker, byte, width, total, get, formatted, copyA, copy_of}
-use Rattle.model.specs.Refusals.{Job, cold, ready, writing, recovering, isReady, badJob, formatNumber, startNumber, grouping, badWrite}
-use Rattle.model.specs.Calls.{Device, Outcome, outcome, asStarted, asFormatted, view, job_of, recordIn}
+use Rattle.model.specs.Layout.{Copy, marker, byte, width, total, get, formatted, copy_a, copy_of}
+use Rattle.model.specs.Refusals.{Job, cold, ready, writing, recovering, is_ready, bad_job, format_number, start_number, grouping, bad_write}
+use Rattle.model.specs.Calls.{Device, Outcome, outcome, as_started, as_formatted, view, job_of, record_in}
 use lib.Dec.{eqb}
-use Rattle.model.specs.Groups.{Write, last, padded, given, stands, remaining, writes, writeAt, isLastWrite}
+use Rattle.model.specs.Groups.{Write, last, padded, given, stands, remaining, writes, write_at, is_last_write}
 use Rattle.model.specs.Calls as calls
-use Rattle.model.specs.Ledger.{Ledger, Call, step, cut, wake, opening, judged, told, accepted, fed, tells, after, wasCut, savingAll, countWith}
+use Rattle.model.specs.Ledger.{Ledger, Call, step, cut, wake, opening, judged, told, accepted, fed, tells, after, was_cut, saving_all, count_with}
 use Rattle.model.specs.Ledger as ledger
-use Rattle.model.specs.PowerCut.{call, run, answers, closedBy, repair, Repairs, none, only, Repaired, Survives, Closes, PowerCut, PowerCutFromStart, CutAccepted, stores_of, added}
+use Rattle.model.specs.PowerCut.{call, run, answers, closed_by, repair, Repairs, none, only, Repaired, Survives, Closes, PowerCut, PowerCutFromStart, CutAccepted, stores_of, added}
 use Rattle.model.specs.Foreign.{NeverForeign}
 use Rattle.model.proofs.Compare.{Same, equal, differ, same}
-use Rattle.model.proofs.RefusalLaws.{PlanOk, count-bounds, start-says, format-says, format-cold, job-recovering, wake-cold, cut-any, cut-says, step-recovering, step-grouping}
-use Rattle.model.proofs.LayoutLaws.{copy_is, get-formatted, length-formatted, rest-formatted}
-use Rattle.model.proofs.LedgerLaws.{at, notes-copy, notes-settle, none-foreign, ledger-small, store_writes}
-use Rattle.model.proofs.Invariant.{Whole, Clean, loaded-fine, Stage, resting, off, opened, toA, toB, mending, phased, job-phased, Inv, all-clean}
-use Rattle.model.proofs.Tasks.{Task, alone, jobAt, part}
+use Rattle.model.proofs.RefusalLaws.{PlanOk, count_bounds, start_says, format_says, format_cold, job_recovering, wake_cold, cut_any, cut_says, step_recovering, step_grouping}
+use Rattle.model.proofs.LayoutLaws.{copy_is, get_formatted, length_formatted, rest_formatted}
+use Rattle.model.proofs.LedgerLaws.{at, notes_copy, notes_settle, none_foreign, ledger_small, store_writes}
+use Rattle.model.proofs.Invariant.{Whole, Clean, loaded_fine, Stage, resting, off, opened, to_a, to_b, mending, phased, job_phased, Inv, all_clean}
+use Rattle.model.proofs.Tasks.{Task, alone, job_at, part}
 use Rattle.model.proofs.Keeps.{keeps}
-use Rattle.model.proofs.GroupLaws.{stands-given, last-lt, part-fine, writes_more}
-use Rattle.model.proofs.Promise.{Promised, promise-fed, promise-opens, ready-same, stores-from}
+use Rattle.model.proofs.GroupLaws.{stands_given, last_lt, part_fine, writes_more}
+use Rattle.model.proofs.Promise.{Promised, promise_fed, promise_opens, ready_same, stores_from}
 
 -- ---- a formatted device
 opens : (p : Plan) (before : List ℕ) (o : Outcome) → PlanOk p → total p ≤ length before → o.device.plan ≡ p → o.device.phase ≡ Ready
@@ -38,19 +38,19 @@ opens p before o ok h plan phase image =
       plan = plan;
       phase = phase;
       frame = rw image (record {
-        size = length-formatted p ok before h;
-        long = omega (arith, length-formatted p ok before h);
-        rest = rest-formatted p ok before;
-        unit = (count-bounds p ok).0;
+        size = length_formatted p ok before h;
+        long = omega (arith, length_formatted p ok before h);
+        rest = rest_formatted p ok before;
+        unit = (count_bounds p ok).0;
         lengths = λ v hv. length-replicate (width p v) 0;
-        others = λ v hv ne. record { mark = get-formatted p ok before v marker hv tt; both = λ c. zeros v hv c };
+        others = λ v hv ne. record { mark = get_formatted p ok before v marker hv tt; both = λ c. zeros v hv c };
       });
-      mark = rw image (get-formatted p ok before 0 marker (count-bounds p ok).0 tt);
-      stage = resting refl refl (rw image (λ c. zeros 0 (count-bounds p ok).0 c));
+      mark = rw image (get_formatted p ok before 0 marker (count_bounds p ok).0 tt);
+      stage = resting refl refl (rw image (λ c. zeros 0 (count_bounds p ok).0 c));
     }
   where
     zeros : (v : ℕ) → v < p.count → (c : Copy) → Whole p (formatted p before) v c (replicate (width p v) 0)
-    zeros v hv c i l = get-formatted p ok before v (byte c i) hv l ∙ sym (get_or-replicate (width p v) i 0 0 l)
+    zeros v hv c i l = get_formatted p ok before v (byte c i) hv l ∙ sym (get_or-replicate (width p v) i 0 0 l)
 
 module _ (p : Plan) (ok : PlanOk p) (before : List ℕ) where
   -- ---- along a list of calls
@@ -67,123 +67,123 @@ module _ (p : Plan) (ok : PlanOk p) (before : List ℕ) where
       record { answered = ap₂ ◌∷◌ h.answer t.answered; inv = t.inv }
 
   -- ---- the closing cut leaves Cold, if it is accepted
-  pub job-fine : (l : Ledger) (o : Outcome) → Inv p before l o → badJob p l.payload l.job ≡ false
-  unfolding badJob
-  job-fine l o inv = go inv.stage
+  pub job_fine : (l : Ledger) (o : Outcome) → Inv p before l o → bad_job p l.payload l.job ≡ false
+  unfolding bad_job
+  job_fine l o inv = go inv.stage
     where
       unit : l.unit < p.count
       unit = inv.frame.unit
 
-      go : Stage p o.image l o.device.payload → badJob p l.payload l.job ≡ false
+      go : Stage p o.image l o.device.payload → bad_job p l.payload l.job ≡ false
       go (resting e mk h) = rw e
       go (off e h) = rw e
-      go (opened t v bs e mk h ld) = rw e (loaded-fine t ld 0 (omega arith)).0
-      go (toA t bs j hj e mk hb ha ld) = rw e (loaded-fine t ld (suc j) (omega arith)).0
-      go (toB t bs j hj e mk sv ha hb ld) = rw e (loaded-fine t ld (suc (width p l.unit + suc j)) (omega arith)).0
-      go (mending j hj e mk hs ht) = rw e (job-recovering p l.payload l.unit j unit (omega arith))
+      go (opened t v bs e mk h ld) = rw e (loaded_fine t ld 0 (omega arith)).0
+      go (to_a t bs j hj e mk hb ha ld) = rw e (loaded_fine t ld (suc j) (omega arith)).0
+      go (to_b t bs j hj e mk sv ha hb ld) = rw e (loaded_fine t ld (suc (width p l.unit + suc j)) (omega arith)).0
+      go (mending j hj e mk hs ht) = rw e (job_recovering p l.payload l.unit j unit (omega arith))
 
   -- what is saved, after a call, and along the same list
-  pub saved-fed : (l : Ledger) (o : Outcome) → Inv p before l o → Promised p l → (c : Call) → Promised p (fed p l c)
-  saved-fed l o inv pr c =
-      promise-fed p ok l (inv.frame.lengths (last p) (last-lt p ok)) c (job-fine l o inv) pr
+  pub saved_fed : (l : Ledger) (o : Outcome) → Inv p before l o → Promised p l → (c : Call) → Promised p (fed p l c)
+  saved_fed l o inv pr c =
+      promise_fed p ok l (inv.frame.lengths (last p) (last_lt p ok)) c (job_fine l o inv) pr
 
-  saved-along : (cs : List Call) (l : Ledger) (o : Outcome) → Inv p before l o → Promised p l → Promised p (after p l cs)
+  saved_along : (cs : List Call) (l : Ledger) (o : Outcome) → Inv p before l o → Promised p l → Promised p (after p l cs)
   unfolding after fed
-  saved-along [] l o inv pr = pr
-  saved-along (c ∷ cs) l o inv pr =
-      saved-along cs (fed p l c) (call c o) (keeps p ok before l o inv c).kept (saved-fed l o inv pr c)
+  saved_along [] l o inv pr = pr
+  saved_along (c ∷ cs) l o inv pr =
+      saved_along cs (fed p l c) (call c o) (keeps p ok before l o inv c).kept (saved_fed l o inv pr c)
 
-  pub fed-accepted : (l : Ledger) (c : Call) → told p l c ≡ 0 → fed p l c ≡ accepted p l c
+  pub fed_accepted : (l : Ledger) (c : Call) → told p l c ≡ 0 → fed p l c ≡ accepted p l c
   unfolding fed
-  fed-accepted l c e = rw e
+  fed_accepted l c e = rw e
 
-  cut-leaves-cold : (l : Ledger) (bytes : List ℕ) → told p l (cut bytes) ≡ 0 → (fed p l (cut bytes)).job ≡ cold
+  cut_leaves_cold : (l : Ledger) (bytes : List ℕ) → told p l (cut bytes) ≡ 0 → (fed p l (cut bytes)).job ≡ cold
   unfolding accepted
-  cut-leaves-cold l bytes e = rw (fed-accepted l (cut bytes) e) (go l.job)
+  cut_leaves_cold l bytes e = rw (fed_accepted l (cut bytes) e) (go l.job)
     where
-      go : (j : Job) → (wasCut p l bytes j).job ≡ cold
+      go : (j : Job) → (was_cut p l bytes j).job ≡ cold
       go cold = refl
       go ready = refl
       go (writing u n) = refl
       go (recovering u n) = refl
       go (grouping i n) = refl
 
-  after-snoc : (cs : List Call) (c : Call) (l : Ledger) → after p l (cs ++ (c ∷ [])) ≡ fed p (after p l cs) c
+  after_snoc : (cs : List Call) (c : Call) (l : Ledger) → after p l (cs ++ (c ∷ [])) ≡ fed p (after p l cs) c
   unfolding after
-  after-snoc [] c l = refl
-  after-snoc (x ∷ cs) c l = after-snoc cs c (fed p l x)
+  after_snoc [] c l = refl
+  after_snoc (x ∷ cs) c l = after_snoc cs c (fed p l x)
 
   -- the ledger tells the closing cut's answer
   closing : (cs : List Call) (bytes : List ℕ) (l : Ledger) (o : Outcome) → Inv p before l o
       → (call (cut bytes) (run cs o)).number ≡ told p (after p l cs) (cut bytes)
   closing cs bytes l o inv = (keeps p ok before (after p l cs) (run cs o) (along cs l o inv).inv (cut bytes)).answer
 
-  pub ends-cold : (cs : List Call) (bytes : List ℕ) (l : Ledger) (o : Outcome) → Inv p before l o → Closes bytes cs o
-      → (after p l (closedBy bytes cs)).job ≡ cold
-  ends-cold cs bytes l o inv e =
-      ap (λ (x : Ledger). x.job) (after-snoc cs (cut bytes) l) ∙ cut-leaves-cold (after p l cs) bytes (sym (closing cs bytes l o inv) ∙ e)
+  pub ends_cold : (cs : List Call) (bytes : List ℕ) (l : Ledger) (o : Outcome) → Inv p before l o → Closes bytes cs o
+      → (after p l (closed_by bytes cs)).job ≡ cold
+  ends_cold cs bytes l o inv e =
+      ap (λ (x : Ledger). x.job) (after_snoc cs (cut bytes) l) ∙ cut_leaves_cold (after p l cs) bytes (sym (closing cs bytes l o inv) ∙ e)
 
   -- and it is accepted exactly if it has as many bytes as a page
-  cut-accepted : (cs : List Call) (bytes : List ℕ) (l : Ledger) (o : Outcome) → Inv p before l o
+  cut_accepted : (cs : List Call) (bytes : List ℕ) (l : Ledger) (o : Outcome) → Inv p before l o
       → (length bytes ≡ p.page → Closes bytes cs o) × (Closes bytes cs o → length bytes ≡ p.page)
   unfolding told
-  cut-accepted cs bytes l o inv =
+  cut_accepted cs bytes l o inv =
       let now : Ledger = after p l cs in (
         (λ e. closing cs bytes l o inv
-            ∙ cut-any (judged p now) ok refl (length bytes) (job-fine now (run cs o) (along cs l o inv).inv) e),
-        λ e. (cut-says (judged p now) (length bytes) (sym (closing cs bytes l o inv) ∙ e)).size,
+            ∙ cut_any (judged p now) ok refl (length bytes) (job_fine now (run cs o) (along cs l o inv).inv) e),
+        λ e. (cut_says (judged p now) (length bytes) (sym (closing cs bytes l o inv) ∙ e)).size,
       )
 
   -- ---- the ledger alone goes through a repair: n accepted steps, none of them from Ready, that promise nothing
   pub data Mends : Ledger → ℕ → Ledger → Type 0 where
     done : {l : Ledger} → Mends l 0 l
-    more : {l l' : Ledger} {n : ℕ} → told p l step ≡ 0 → isReady l.job ≡ false → (fed p l step).saved ≡ l.saved
+    more : {l l' : Ledger} {n : ℕ} → told p l step ≡ 0 → is_ready l.job ≡ false → (fed p l step).saved ≡ l.saved
         → Mends (fed p l step) n l' → Mends l (suc n) l'
 
-  mends-answers : {l l' : Ledger} {n : ℕ} → Mends l n l' → tells p l (replicate n step) ≡ replicate n 0
+  mends_answers : {l l' : Ledger} {n : ℕ} → Mends l n l' → tells p l (replicate n step) ≡ replicate n 0
   unfolding tells
-  mends-answers done = refl
-  mends-answers (more a r s g) = ap₂ ◌∷◌ a (mends-answers g)
+  mends_answers done = refl
+  mends_answers (more a r s g) = ap₂ ◌∷◌ a (mends_answers g)
 
-  mends-after : {l l' : Ledger} {n : ℕ} → Mends l n l' → after p l (replicate n step) ≡ l'
+  mends_after : {l l' : Ledger} {n : ℕ} → Mends l n l' → after p l (replicate n step) ≡ l'
   unfolding after
-  mends-after done = refl
-  mends-after (more a r s g) = mends-after g
+  mends_after done = refl
+  mends_after (more a r s g) = mends_after g
 
-  mends-saved : {l l' : Ledger} {n : ℕ} → Mends l n l' → l'.saved ≡ l.saved
-  mends-saved done = refl
-  mends-saved (more a r s g) = mends-saved g ∙ s
+  mends_saved : {l l' : Ledger} {n : ℕ} → Mends l n l' → l'.saved ≡ l.saved
+  mends_saved done = refl
+  mends_saved (more a r s g) = mends_saved g ∙ s
 
-  mends-not-earlier : {l l' : Ledger} {n : ℕ} → Mends l n l' → (j : ℕ) → j < n → isReady (after p l (replicate j step)).job ≡ false
+  mends_not_earlier : {l l' : Ledger} {n : ℕ} → Mends l n l' → (j : ℕ) → j < n → is_ready (after p l (replicate j step)).job ≡ false
   unfolding after
-  mends-not-earlier done j h = absurd (omega arith)
-  mends-not-earlier (more a r s g) zero h = r
-  mends-not-earlier (more a r s g) (suc j) h = mends-not-earlier g j (omega arith)
+  mends_not_earlier done j h = absurd (omega arith)
+  mends_not_earlier (more a r s g) zero h = r
+  mends_not_earlier (more a r s g) (suc j) h = mends_not_earlier g j (omega arith)
 
-  mends-then : {l l' l'' : Ledger} {n m : ℕ} → Mends l n l' → Mends l' m l'' → (k : ℕ) → k ≡ n + m → Mends l k l''
-  mends-then {l'' = l''} {m = m} (done {l}) h k e =
+  mends_then : {l l' l'' : Ledger} {n m : ℕ} → Mends l n l' → Mends l' m l'' → (k : ℕ) → k ≡ n + m → Mends l k l''
+  mends_then {l'' = l''} {m = m} (done {l}) h k e =
       let q : m ≡ k = omega arith in
       subst (λ (z : ℕ). Mends l z l'') q h
-  mends-then (more {n = n} a r s g) h zero e = absurd (omega arith)
-  mends-then (more {n = n} a r s g) h (suc k) e = more a r s (mends-then g h k (omega arith))
+  mends_then (more {n = n} a r s g) h zero e = absurd (omega arith)
+  mends_then (more {n = n} a r s g) h (suc k) e = more a r s (mends_then g h k (omega arith))
 
   -- a cleanup of unit u that has made j stores, with n bytes to copy still
   abbrev settled : Ledger → ℕ → Ledger
   settled l u = at (ledger.resumed p l) (ledger.reloaded p l) u OK l.written l.saved
 
-  mends-unit : (u : ℕ) → u < p.count → (n j : ℕ) (l : Ledger) → l.job ≡ recovering u j → j + n ≡ width p u
+  mends_unit : (u : ℕ) → u < p.count → (n j : ℕ) (l : Ledger) → l.job ≡ recovering u j → j + n ≡ width p u
       → Mends l (suc n) (settled l u)
   unfolding told
-  mends-unit u hu zero j l e h =
-      let fine : told p l step ≡ 0 = step-recovering (judged p l) ok refl u j e hu (omega arith) in
-      let is = fed-accepted l step fine ∙ notes-settle p l u j e (omega arith) completed in
+  mends_unit u hu zero j l e h =
+      let fine : told p l step ≡ 0 = step_recovering (judged p l) ok refl u j e hu (omega arith) in
+      let is = fed_accepted l step fine ∙ notes_settle p l u j e (omega arith) completed in
       more fine (rw e) (ap (λ (x : Ledger). x.saved) is) (subst (λ (x : Ledger). Mends x 0 (settled l u)) (sym is) done)
-  mends-unit u hu (suc n) j l e h =
-      let fine : told p l step ≡ 0 = step-recovering (judged p l) ok refl u j e hu (omega arith) in
-      let is = fed-accepted l step fine ∙ notes-copy p l u j e (omega arith) completed in
-      let l₁ : Ledger = at (recovering u (suc j)) l.payload u (ledger.markerOf l u) l.written l.saved in
+  mends_unit u hu (suc n) j l e h =
+      let fine : told p l step ≡ 0 = step_recovering (judged p l) ok refl u j e hu (omega arith) in
+      let is = fed_accepted l step fine ∙ notes_copy p l u j e (omega arith) completed in
+      let l₁ : Ledger = at (recovering u (suc j)) l.payload u (ledger.marker_of l u) l.written l.saved in
       more fine (rw e) (ap (λ (x : Ledger). x.saved) is)
-      (subst (λ (x : Ledger). Mends x (suc n) (settled l u)) (sym is) (mends-unit u hu n (suc j) l₁ refl (omega arith)))
+      (subst (λ (x : Ledger). Mends x (suc n) (settled l u)) (sym is) (mends_unit u hu n (suc j) l₁ refl (omega arith)))
 
   -- ---- the writes of a standing record: n steps to the job j; the payload stays
   pub record Trip (l : Ledger) (n : ℕ) (j : Job) : Type 0 where
@@ -195,30 +195,30 @@ module _ (p : Plan) (ok : PlanOk p) (before : List ℕ) where
   module _ (payload : List ℕ) (gv : given p payload ≡ true) where
     -- the width of write i
     abbrev wide : ℕ → ℕ
-    wide i = width p (writeAt p payload i).unit
+    wide i = width p (write_at p payload i).unit
 
     -- the job after one more store of write i
     abbrev onward : ℕ → ℕ → Job
     onward i n =
-        cond (eqb (suc n) (2 * width p (writeAt p payload i).unit + 3))
-        (cond (isLastWrite p payload i) ready (grouping (suc i) 0))
+        cond (eqb (suc n) (2 * width p (write_at p payload i).unit + 3))
+        (cond (is_last_write p payload i) ready (grouping (suc i) 0))
         (grouping i (suc n))
 
-    rewrite-store : (i n : ℕ) (l : Ledger) → l.job ≡ grouping (suc i) n → l.payload ≡ payload → suc i < length (writes p payload)
-        → n < 2 * width p (writeAt p payload (suc i)).unit + 3 → Trip l 1 (onward (suc i) n)
-    unfolding told countWith savingAll
-    rewrite-store i n l e f hi hn =
+    rewrite_store : (i n : ℕ) (l : Ledger) → l.job ≡ grouping (suc i) n → l.payload ≡ payload → suc i < length (writes p payload)
+        → n < 2 * width p (write_at p payload (suc i)).unit + 3 → Trip l 1 (onward (suc i) n)
+    unfolding told count_with saving_all
+    rewrite_store i n l e f hi hn =
         let fine : told p l step ≡ 0 =
-        step-grouping (judged p l) ok refl (suc i) n e
-        (subst (λ (x : List ℕ). badWrite p x (suc i) ≡ false) (sym f) (part-fine p ok payload (suc i) gv hi))
-        (subst (λ (x : List ℕ). n < 2 * width p (writeAt p x (suc i)).unit + 3) (sym f) hn) in
-        let is = fed-accepted l step fine ∙ store_writes p l (part (suc i)) n (writeAt p l.payload (suc i)) e refl completed in
-        let same-saved : (fed p l step).saved ≡ l.saved = ap (λ (x : Ledger). x.saved) is ∙ stays (ledger.passesAt p l (writeAt p l.payload (suc i)) (suc n) completed) in
+        step_grouping (judged p l) ok refl (suc i) n e
+        (subst (λ (x : List ℕ). bad_write p x (suc i) ≡ false) (sym f) (part_fine p ok payload (suc i) gv hi))
+        (subst (λ (x : List ℕ). n < 2 * width p (write_at p x (suc i)).unit + 3) (sym f) hn) in
+        let is = fed_accepted l step fine ∙ store_writes p l (part (suc i)) n (write_at p l.payload (suc i)) e refl completed in
+        let same_saved : (fed p l step).saved ≡ l.saved = ap (λ (x : Ledger). x.saved) is ∙ stays (ledger.passes_at p l (write_at p l.payload (suc i)) (suc n) completed) in
         record {
           to = fed p l step;
-          mends = more fine (rw e) same-saved done;
+          mends = more fine (rw e) same_saved done;
           job = ap (λ (x : Ledger). x.job) is
-              ∙ ap (λ (x : List ℕ). cond (eqb (suc n) (2 * width p (writeAt p x (suc i)).unit + 3)) (cond (isLastWrite p x (suc i)) ready (grouping (suc (suc i)) 0)) (grouping (suc i) (suc n))) f;
+              ∙ ap (λ (x : List ℕ). cond (eqb (suc n) (2 * width p (write_at p x (suc i)).unit + 3)) (cond (is_last_write p x (suc i)) ready (grouping (suc (suc i)) 0)) (grouping (suc i) (suc n))) f;
           payload = ap (λ (x : Ledger). x.payload) is;
         }
       where
@@ -227,25 +227,25 @@ module _ (p : Plan) (ok : PlanOk p) (before : List ℕ) where
         stays false = refl
 
     -- write i with m stores to make after the next
-    rewrite-on : (i m n : ℕ) (l : Ledger) → l.job ≡ grouping (suc i) n → l.payload ≡ payload → suc i < length (writes p payload)
-        → n + m ≡ 2 * width p (writeAt p payload (suc i)).unit + 2
-        → Trip l (suc m) (cond (isLastWrite p payload (suc i)) ready (grouping (suc (suc i)) 0))
-    rewrite-on i zero n l e f hi h =
-        let t = rewrite-store i n l e f hi (omega arith) in
+    rewrite_on : (i m n : ℕ) (l : Ledger) → l.job ≡ grouping (suc i) n → l.payload ≡ payload → suc i < length (writes p payload)
+        → n + m ≡ 2 * width p (write_at p payload (suc i)).unit + 2
+        → Trip l (suc m) (cond (is_last_write p payload (suc i)) ready (grouping (suc (suc i)) 0))
+    rewrite_on i zero n l e f hi h =
+        let t = rewrite_store i n l e f hi (omega arith) in
         record {
           to = t.to;
           mends = t.mends;
-          job = t.job ∙ rw (eq-eqb (suc n) (2 * width p (writeAt p payload (suc i)).unit + 3) (omega arith));
+          job = t.job ∙ rw (eq-eqb (suc n) (2 * width p (write_at p payload (suc i)).unit + 3) (omega arith));
           payload = t.payload;
         }
-    rewrite-on i (suc m) n l e f hi h =
-        let t = rewrite-store i n l e f hi (omega arith) in
+    rewrite_on i (suc m) n l e f hi h =
+        let t = rewrite_store i n l e f hi (omega arith) in
         let on : t.to.job ≡ grouping (suc i) (suc n) =
-        t.job ∙ rw (ne_eqb (suc n) (2 * width p (writeAt p payload (suc i)).unit + 3) (omega arith)) in
-        let g = rewrite-on i m (suc n) t.to on (t.payload ∙ f) hi (omega arith) in
+        t.job ∙ rw (ne_eqb (suc n) (2 * width p (write_at p payload (suc i)).unit + 3) (omega arith)) in
+        let g = rewrite_on i m (suc n) t.to on (t.payload ∙ f) hi (omega arith) in
         record {
           to = g.to;
-          mends = mends-then t.mends g.mends (suc (suc m)) (omega arith);
+          mends = mends_then t.mends g.mends (suc (suc m)) (omega arith);
           job = g.job;
           payload = g.payload ∙ t.payload;
         }
@@ -258,28 +258,28 @@ module _ (p : Plan) (ok : PlanOk p) (before : List ℕ) where
     no_more (x ∷ xs) (suc n) e = no_more xs n (omega arith)
 
     -- write i and the m after it
-    rewrites-from : (m i : ℕ) (l : Ledger) → suc (suc i + m) ≡ length (writes p payload) → l.job ≡ grouping (suc i) 0 → l.payload ≡ payload
+    rewrites_from : (m i : ℕ) (l : Ledger) → suc (suc i + m) ≡ length (writes p payload) → l.job ≡ grouping (suc i) 0 → l.payload ≡ payload
         → Trip l (stores_of p (drop (suc i) (writes p payload))) ready
-    unfolding isLastWrite
-    rewrites-from zero i l h e f =
+    unfolding is_last_write
+    rewrites_from zero i l h e f =
         let lt : suc i < length (writes p payload) = omega arith in
-        let t = rewrite-on i (2 * width p (writeAt p payload (suc i)).unit + 2) 0 l e f lt (omega arith) in
-        let q : suc (2 * width p (writeAt p payload (suc i)).unit + 2) ≡ stores_of p (drop (suc i) (writes p payload)) =
-        omega (arith, stores-from p payload (suc i) lt, no_more (writes p payload) (suc (suc i)) (omega arith)) in
+        let t = rewrite_on i (2 * width p (write_at p payload (suc i)).unit + 2) 0 l e f lt (omega arith) in
+        let q : suc (2 * width p (write_at p payload (suc i)).unit + 2) ≡ stores_of p (drop (suc i) (writes p payload)) =
+        omega (arith, stores_from p payload (suc i) lt, no_more (writes p payload) (suc (suc i)) (omega arith)) in
         record {
           to = t.to;
           mends = subst (λ (z : ℕ). Mends l z t.to) q t.mends;
           job = t.job ∙ rw (le-leb (length (writes p payload)) (suc (suc i)) (omega arith));
           payload = t.payload;
         }
-    rewrites-from (suc m) i l h e f =
+    rewrites_from (suc m) i l h e f =
         let lt : suc i < length (writes p payload) = omega arith in
-        let t = rewrite-on i (2 * width p (writeAt p payload (suc i)).unit + 2) 0 l e f lt (omega arith) in
+        let t = rewrite_on i (2 * width p (write_at p payload (suc i)).unit + 2) 0 l e f lt (omega arith) in
         let on : t.to.job ≡ grouping (suc (suc i)) 0 = t.job ∙ rw (lt-leb (length (writes p payload)) (suc (suc i)) (omega arith)) in
-        let g = rewrites-from m (suc i) t.to (omega arith) on (t.payload ∙ f) in
+        let g = rewrites_from m (suc i) t.to (omega arith) on (t.payload ∙ f) in
         record {
           to = g.to;
-          mends = mends-then t.mends g.mends (stores_of p (drop (suc i) (writes p payload))) (omega (arith, stores-from p payload (suc i) lt));
+          mends = mends_then t.mends g.mends (stores_of p (drop (suc i) (writes p payload))) (omega (arith, stores_from p payload (suc i) lt));
           job = g.job;
           payload = g.payload ∙ t.payload;
         }
@@ -298,95 +298,95 @@ module _ (p : Plan) (ok : PlanOk p) (before : List ℕ) where
           all : (n : ℕ) → n ≡ length (writes p (padded r)) → 1 < n → Trip l (stores_of p (remaining p (padded r))) ready
           all zero x y = absurd (omega arith)
           all (suc zero) x y = absurd (omega arith)
-          all (suc (suc n)) x y = rewrites-from (padded r) (sym (stands-given p r) ∙ q) n 0 l (omega arith) e f
+          all (suc (suc n)) x y = rewrites_from (padded r) (sym (stands_given p r) ∙ q) n 0 l (omega arith) e f
 
   -- ---- in Ready, and at the start of a write, every unit is clean
-  abbrev isStill : Job → Bool
-  isStill cold = false
-  isStill ready = true
-  isStill (writing u zero) = true
-  isStill (writing u (suc n)) = false
-  isStill (recovering u n) = false
-  isStill (grouping i zero) = true
-  isStill (grouping i (suc n)) = false
+  abbrev is_still : Job → Bool
+  is_still cold = false
+  is_still ready = true
+  is_still (writing u zero) = true
+  is_still (writing u (suc n)) = false
+  is_still (recovering u n) = false
+  is_still (grouping i zero) = true
+  is_still (grouping i (suc n)) = false
 
-  moving : (t : Task) (n : ℕ) → isStill (jobAt t (suc n)) ≡ false
+  moving : (t : Task) (n : ℕ) → is_still (job_at t (suc n)) ≡ false
   moving (alone u) n = refl
   moving (part i) n = refl
 
-  still-clean : (l : Ledger) (o : Outcome) → Inv p before l o → isStill l.job ≡ true
+  still_clean : (l : Ledger) (o : Outcome) → Inv p before l o → is_still l.job ≡ true
       → (v : ℕ) → v < p.count → Clean p o.image l.written v
-  still-clean l o inv r = go inv.stage
+  still_clean l o inv r = go inv.stage
     where
-      other : {X : Type 0} (j : Job) → l.job ≡ j → isStill j ≡ false → X
-      other j e t = absurd (true≢false (sym r ∙ ap isStill e ∙ t))
+      other : {X : Type 0} (j : Job) → l.job ≡ j → is_still j ≡ false → X
+      other j e t = absurd (true≢false (sym r ∙ ap is_still e ∙ t))
 
       go : Stage p o.image l o.device.payload → (v : ℕ) → v < p.count → Clean p o.image l.written v
-      go (resting e mk both) = all-clean inv.frame (record { mark = inv.mark ∙ mk; both = both })
+      go (resting e mk both) = all_clean inv.frame (record { mark = inv.mark ∙ mk; both = both })
       go (off e h) = other _ e refl
-      go (opened t v bs e mk both ld) = all-clean inv.frame (record { mark = inv.mark ∙ mk; both = both })
-      go (toA t bs j hj e mk hb ha ld) = other _ e (moving t _)
-      go (toB t bs j hj e mk sv ha hb ld) = other _ e (moving t _)
+      go (opened t v bs e mk both ld) = all_clean inv.frame (record { mark = inv.mark ∙ mk; both = both })
+      go (to_a t bs j hj e mk hb ha ld) = other _ e (moving t _)
+      go (to_b t bs j hj e mk sv ha hb ld) = other _ e (moving t _)
       go (mending j hj e mk hs ht) = other _ e refl
 
   -- in Ready both copies of each unit are what was written last
-  pub ready-copies : (l : Ledger) (o : Outcome) → Inv p before l o → l.job ≡ ready
+  pub ready_copies : (l : Ledger) (o : Outcome) → Inv p before l o → l.job ≡ ready
       → (v : ℕ) → v < p.count → (c : Copy) → copy_of p o.image v c ≡ l.written v
-  ready-copies l o inv e v hv c =
+  ready_copies l o inv e v hv c =
       copy_is p ok o.image v c (l.written v) hv inv.frame.long (inv.frame.lengths v hv)
-      ((still-clean l o inv (ap isStill e) v hv).both c)
+      ((still_clean l o inv (ap is_still e) v hv).both c)
 
-  not-ready : (l : Ledger) (o : Outcome) → Inv p before l o → isReady l.job ≡ false → ¬ (o.device.phase ≡ Ready)
-  not-ready l o inv t q =
+  not_ready_lem : (l : Ledger) (o : Outcome) → Inv p before l o → is_ready l.job ≡ false → ¬ (o.device.phase ≡ Ready)
+  not_ready_lem l o inv t q =
       true≢false
-      (sym (ap (λ ph. isReady (job_of ph)) q) ∙ ap (λ ph. isReady (job_of ph)) inv.phase
-      ∙ ap isReady (job-phased (direction l.marker) l.job) ∙ t)
+      (sym (ap (λ ph. is_ready (job_of ph)) q) ∙ ap (λ ph. is_ready (job_of ph)) inv.phase
+      ∙ ap is_ready (job_phased (direction l.marker) l.job) ∙ t)
 
-  resumed-still : (l : Ledger) → isStill (ledger.resumed p l) ≡ true
-  resumed-still l = go (ledger.standing p l)
+  resumed_still : (l : Ledger) → is_still (ledger.resumed p l) ≡ true
+  resumed_still l = go (ledger.standing p l)
     where
-      go : (b : Bool) → isStill (cond b (grouping 1 0) ready) ≡ true
+      go : (b : Bool) → is_still (cond b (grouping 1 0) ready) ≡ true
       go true = refl
       go false = refl
 
   -- what the theorem says of a repair, and besides: which record stands after the cleanup is told by the ledger, and the plan stays
   pub record Mended (l : Ledger) (o : Outcome) : Type 0 where
     pub is : Repaired p before l.saved o
-    pub stood : recordIn p (run (repair is.needed.cleaning) o).image ≡ l.written (last p)
+    pub stood : record_in p (run (repair is.needed.cleaning) o).image ≡ l.written (last p)
     pub plan : (run (repair is.steps) o).device.plan ≡ p
 
   -- ---- one wake, the c steps of a cleanup to l₁, and the steps of a record that stands then
   module _ (l : Ledger) (o : Outcome) (inv : Inv p before l o) (pr : Promised p l) (woken : told p l wake ≡ 0)
-      (same-saved : (fed p l wake).saved ≡ l.saved) where
-    after-repair : (n : ℕ) → after p l (repair n) ≡ after p (fed p l wake) (replicate n step)
+      (same_saved : (fed p l wake).saved ≡ l.saved) where
+    after_repair : (n : ℕ) → after p l (repair n) ≡ after p (fed p l wake) (replicate n step)
     unfolding after
-    after-repair n = refl
+    after_repair n = refl
 
-    tells-repair : (n : ℕ) → tells p l (repair n) ≡ told p l wake ∷ tells p (fed p l wake) (replicate n step)
+    tells_repair : (n : ℕ) → tells p l (repair n) ≡ told p l wake ∷ tells p (fed p l wake) (replicate n step)
     unfolding tells
-    tells-repair n = refl
+    tells_repair n = refl
 
-    repaired-in : (c : ℕ) → Repairs p o.image c → (l₁ : Ledger) → Mends (fed p l wake) c l₁
+    repaired_in : (c : ℕ) → Repairs p o.image c → (l₁ : Ledger) → Mends (fed p l wake) c l₁
         → l₁.job ≡ ledger.resumed p l → l₁.payload ≡ ledger.reloaded p l → l₁.written ≡ l.written → Mended l o
-    repaired-in c needed l₁ cleans job payload written =
+    repaired_in c needed l₁ cleans job payload written =
         let trip = rewrites l₁ (l.written (last p)) l.payload job payload in
         let n : ℕ = c + added p (l.written (last p)) in
-        let mends : Mends (fed p l wake) n trip.to = mends-then cleans trip.mends n refl in
-        let mid : after p l (repair c) ≡ l₁ = after-repair c ∙ mends-after cleans in
+        let mends : Mends (fed p l wake) n trip.to = mends_then cleans trip.mends n refl in
+        let mid : after p l (repair c) ≡ l₁ = after_repair c ∙ mends_after cleans in
         let tc = along (repair c) l o inv in
-        let clean = still-clean (after p l (repair c)) (run (repair c) o) tc.inv
-        (ap (λ (x : Ledger). isStill x.job) mid ∙ ap isStill job ∙ resumed-still l) in
-        let rec : recordIn p (run (repair c) o).image ≡ l.written (last p) =
-        copy_is p ok _ (last p) copyA _ (last-lt p ok) tc.inv.frame.long (tc.inv.frame.lengths (last p) (last-lt p ok))
-        ((clean (last p) (last-lt p ok)).both copyA)
+        let clean = still_clean (after p l (repair c)) (run (repair c) o) tc.inv
+        (ap (λ (x : Ledger). is_still x.job) mid ∙ ap is_still job ∙ resumed_still l) in
+        let rec : record_in p (run (repair c) o).image ≡ l.written (last p) =
+        copy_is p ok _ (last p) copy_a _ (last_lt p ok) tc.inv.frame.long (tc.inv.frame.lengths (last p) (last_lt p ok))
+        ((clean (last p) (last_lt p ok)).both copy_a)
         ∙ ap (λ (x : Ledger). x.written (last p)) mid ∙ ap (λ f. f (last p)) written in
         let t = along (repair n) l o inv in
-        let fin : after p l (repair n) ≡ trip.to = after-repair n ∙ mends-after mends in
+        let fin : after p l (repair n) ≡ trip.to = after_repair n ∙ mends_after mends in
         let e : (after p l (repair n)).job ≡ ready = ap (λ (x : Ledger). x.job) fin ∙ trip.job in
         let s : (after p l (repair n)).written ≡ l.saved =
-        sym (ready-same p (after p l (repair n)) (saved-along (repair n) l o inv pr) e)
-        ∙ ap (λ (x : Ledger). x.saved) fin ∙ mends-saved mends ∙ same-saved in
-        let all = still-clean (after p l (repair n)) (run (repair n) o) t.inv (ap isStill e) in
+        sym (ready_same p (after p l (repair n)) (saved_along (repair n) l o inv pr) e)
+        ∙ ap (λ (x : Ledger). x.saved) fin ∙ mends_saved mends ∙ same_saved in
+        let all = still_clean (after p l (repair n)) (run (repair n) o) t.inv (ap is_still e) in
         let frame = t.inv.frame in
         let plus : suc n ≡ 1 + n = omega arith in
         record {
@@ -394,10 +394,10 @@ module _ (p : Plan) (ok : PlanOk p) (before : List ℕ) where
             steps = n;
             needed = record { cleaning = c; needed = needed; exactly = ap (λ (x : List ℕ). c + added p x) (sym rec) };
             cleared = pr.zeros;
-            accepted = t.answered ∙ tells-repair n ∙ ap₂ ◌∷◌ woken (mends-answers mends) ∙ ap (λ (k : ℕ). replicate {A = ℕ} k 0) plus;
+            accepted = t.answered ∙ tells_repair n ∙ ap₂ ◌∷◌ woken (mends_answers mends) ∙ ap (λ (k : ℕ). replicate {A = ℕ} k 0) plus;
             ready = t.inv.phase ∙ ap (phased (direction (after p l (repair n)).marker)) e;
-            notEarlier = λ j h. not-ready (after p l (repair j)) _ (along (repair j) l o inv).inv
-                (ap (λ (x : Ledger). isReady x.job) (after-repair j) ∙ mends-not-earlier mends j h);
+            not_earlier = λ j h. not_ready_lem (after p l (repair j)) _ (along (repair j) l o inv).inv
+                (ap (λ (x : Ledger). is_ready x.job) (after_repair j) ∙ mends_not_earlier mends j h);
             markers = λ v hv. (all v hv).mark;
             copies = λ v hv c.
                 copy_is p ok _ v c _ hv frame.long (frame.lengths v hv) ((all v hv).both c) ∙ ap (λ f. f v) s;
@@ -414,10 +414,10 @@ module _ (p : Plan) (ok : PlanOk p) (before : List ℕ) where
   mended l o inv pr job small = go (same l.marker OK)
     where
       woken : told p l wake ≡ 0
-      woken = wake-cold (judged p l) ok refl job (none-foreign p l small p.count)
+      woken = wake_cold (judged p l) ok refl job (none_foreign p l small p.count)
 
       is : fed p l wake ≡ accepted p l wake
-      is = fed-accepted l wake woken
+      is = fed_accepted l wake woken
 
       others : (v : ℕ) → v < p.count → ¬ (v ≡ l.unit) → get p o.image v marker ≡ OK
       others v hv h = (inv.frame.others v hv h).mark
@@ -426,7 +426,7 @@ module _ (p : Plan) (ok : PlanOk p) (before : List ℕ) where
       go (equal q) =
           let l₁ : Ledger = ledger.noted l (ledger.resumed p l) (ledger.reloaded p l) in
           let to : fed p l wake ≡ l₁ = is ∙ rw (eq-eqb l.marker OK q) in
-          repaired-in l o inv pr woken (ap (λ (x : Ledger). x.saved) to) 0
+          repaired_in l o inv pr woken (ap (λ (x : Ledger). x.saved) to) 0
           (none (λ v hv. elim (same v l.unit) [ equal x ↦ rw x (inv.mark ∙ q) | differ x ↦ others v hv x ]))
           l₁ (subst (λ (x : Ledger). Mends x 0 l₁) (sym to) done) refl refl refl
       go (differ q) =
@@ -436,83 +436,83 @@ module _ (p : Plan) (ok : PlanOk p) (before : List ℕ) where
           let plus : suc (width p u) ≡ 1 + width p u = omega arith in
           let mends : Mends (fed p l wake) (suc (width p u)) (settled l₀ u) =
           subst (λ (x : Ledger). Mends x (suc (width p u)) (settled l₀ u)) (sym to)
-          (mends-unit u inv.frame.unit (width p u) 0 l₀ refl (omega arith)) in
-          repaired-in l o inv pr woken (ap (λ (x : Ledger). x.saved) to) (1 + width p u)
+          (mends_unit u inv.frame.unit (width p u) 0 l₀ refl (omega arith)) in
+          repaired_in l o inv pr woken (ap (λ (x : Ledger). x.saved) to) (1 + width p u)
           (only u inv.frame.unit (rw inv.mark q) others) (settled l₀ u) (rw plus at mends) refl refl refl
 
   survives : (f : Outcome) → Inv p before (opening p) f → (cs : List Call) (bytes : List ℕ) → Closes bytes cs f
       → Survives p before f bytes cs
   survives f inv cs bytes e =
-      let t = along (closedBy bytes cs) (opening p) f inv in
+      let t = along (closed_by bytes cs) (opening p) f inv in
       record {
         answered = t.answered;
-        repaired = (mended _ _ t.inv (saved-along (closedBy bytes cs) (opening p) f inv (promise-opens p ok))
-            (ends-cold cs bytes (opening p) f inv e) (ledger-small p (closedBy bytes cs))).is;
+        repaired = (mended _ _ t.inv (saved_along (closed_by bytes cs) (opening p) f inv (promise_opens p ok))
+            (ends_cold cs bytes (opening p) f inv e) (ledger_small p (closed_by bytes cs))).is;
       }
 
   -- ---- Ticket 4: the image has the ledger's markers
-  image-small : (f : Outcome) → Inv p before (opening p) f → (cs : List Call)
+  image_small : (f : Outcome) → Inv p before (opening p) f → (cs : List Call)
       → (v : ℕ) → v < p.count → get p (run cs f).image v marker ≤ 7
-  image-small f inv cs v hv =
+  image_small f inv cs v hv =
       let i = (along cs (opening p) f inv).inv in
       elim (same v (after p (opening p) cs).unit) [
-        | equal e ↦ rw (e, i.mark) (ledger-small p cs)
+        | equal e ↦ rw (e, i.mark) (ledger_small p cs)
         | differ e ↦ rw (i.frame.others v hv e).mark (omega arith)
       ]
 
 -- ---- the theorem
-pub accepts : (n : ℕ) (d : Device) (image : List ℕ) (o : Outcome) → (calls.unlessRefused n d image o).number ≡ 0 → n ≡ 0
+pub accepts : (n : ℕ) (d : Device) (image : List ℕ) (o : Outcome) → (calls.unless_refused n d image o).number ≡ 0 → n ≡ 0
 accepts zero d image o e = refl
 accepts (suc n) d image o e = e
 
-pub format-opens : (d : Device) (image : List ℕ) → (calls.format d image).number ≡ 0
+pub format_opens : (d : Device) (image : List ℕ) → (calls.format d image).number ≡ 0
     → PlanOk d.plan × Inv d.plan image (opening d.plan) (calls.format d image)
 unfolding calls.format
-format-opens d image e =
-    let n : ℕ = formatNumber (view d image) in
-    let z : n ≡ 0 = accepts n d image (outcome 0 (asFormatted d) (formatted d.plan image)) e in
-    let h = format-says (view d image) z in
-    let f : Outcome = outcome 0 (asFormatted d) (formatted d.plan image) in
+format_opens d image e =
+    let n : ℕ = format_number (view d image) in
+    let z : n ≡ 0 = accepts n d image (outcome 0 (as_formatted d) (formatted d.plan image)) e in
+    let h = format_says (view d image) z in
+    let f : Outcome = outcome 0 (as_formatted d) (formatted d.plan image) in
     let long : total d.plan ≤ length image = ltb-false (length image) (total d.plan) h.1 in
     (h.0, rw z (opens d.plan image f h.0 long refl refl refl))
 
-pub power-cut : PowerCut
-power-cut d image e =
-    let h = format-opens d image e in
+pub power_cut : PowerCut
+power_cut d image e =
+    let h = format_opens d image e in
     survives d.plan h.0 image (calls.format d image) h.1
 
-pub cut-accepted-exactly : CutAccepted
-cut-accepted-exactly d image e cs bytes =
-    let h = format-opens d image e in
-    cut-accepted d.plan h.0 image cs bytes (opening d.plan) (calls.format d image) h.1
+pub cut_accepted_exactly : CutAccepted
+cut_accepted_exactly d image e cs bytes =
+    let h = format_opens d image e in
+    cut_accepted d.plan h.0 image cs bytes (opening d.plan) (calls.format d image) h.1
 
 -- what is saved after any list
-pub saved-before : (d : Device) (image : List ℕ) → (calls.format d image).number ≡ 0 → (cs : List Call)
+pub saved_before : (d : Device) (image : List ℕ) → (calls.format d image).number ≡ 0 → (cs : List Call)
     → Promised d.plan (after d.plan (opening d.plan) cs)
-saved-before d image e cs =
-    let h = format-opens d image e in
-    saved-along d.plan h.0 image cs (opening d.plan) (calls.format d image) h.1 (promise-opens d.plan h.0)
+saved_before d image e cs =
+    let h = format_opens d image e in
+    saved_along d.plan h.0 image cs (opening d.plan) (calls.format d image) h.1 (promise_opens d.plan h.0)
 
-pub never-foreign : NeverForeign
-never-foreign d image e cs bytes n =
-    let h = format-opens d image e in
-    image-small d.plan h.0 image (calls.format d image) h.1 (take n (closedBy bytes cs))
+pub never_foreign : NeverForeign
+never_foreign d image e cs bytes n =
+    let h = format_opens d image e in
+    image_small d.plan h.0 image (calls.format d image) h.1 (take n (closed_by bytes cs))
 
-start-accepts : (p : Plan) → (calls.start p).number ≡ 0 → (startNumber p ≡ 0) × ((calls.start p).device ≡ asStarted p)
+start_accepts : (p : Plan) → (calls.start p).number ≡ 0 → (start_number p ≡ 0) × ((calls.start p).device ≡ as_started p)
 unfolding calls.start
-start-accepts p e = go (startNumber p) e
+start_accepts p e = go (start_number p) e
   where
-    go : (n : ℕ) → (calls.startAnswer n p).number ≡ 0 → (n ≡ 0) × ((calls.startAnswer n p).device ≡ asStarted p)
+    go : (n : ℕ) → (calls.start_answer n p).number ≡ 0 → (n ≡ 0) × ((calls.start_answer n p).device ≡ as_started p)
     go zero q = (refl, refl)
     go (suc n) q = absurd (omega arith)
 
-pub formats : (p : Plan) (image : List ℕ) → PlanOk p → total p ≤ length image → (calls.format (asStarted p) image).number ≡ 0
+pub formats : (p : Plan) (image : List ℕ) → PlanOk p → total p ≤ length image → (calls.format (as_started p) image).number ≡ 0
 unfolding calls.format
 formats p image ok h =
-    rw (format-cold (view (asStarted p) image) ok (le-ltb (length image) (total p) h) refl)
+    rw (format_cold (view (as_started p) image) ok (le-ltb (length image) (total p) h) refl)
 
-pub power-cut-from-start : PowerCutFromStart
-power-cut-from-start p image e h =
-    let t = start-accepts p e in
-    let z = formats p image (start-says p t.0) h in
-    rw t.1 (z, power-cut (asStarted p) image z)
+pub power_cut_from_start : PowerCutFromStart
+power_cut_from_start p image e h =
+    let t = start_accepts p e in
+    let z = formats p image (start_says p t.0) h in
+    rw t.1 (z, power_cut (as_started p) image z)

@@ -8,15 +8,15 @@ use Rattle.model.specs.declared.Inspection.{Inspection}
 use Rattle.model.specs.declared.Inspection.TheVariants.{Refused, Suspect, AllOk}
 use Rattle.model.specs.declared.Phase.{Phase}
 use Rattle.model.specs.declared.Phase.TheVariants.{Cold, Ready, Writing, Recovering, Grouping}
-use Rattle.model.specs.Rights.{noRights}
-use Rattle.model.specs.Marker.{OK, direction, End, completed, tornBy}
-use Rattle.model.specs.Layout.{copyA, marker, width, total, get, copy_of, formatted}
+use Rattle.model.specs.Rights.{no_rights}
+use Rattle.model.specs.Marker.{OK, direction, End, completed, torn_by}
+use Rattle.model.specs.Layout.{copy_a, marker, width, total, get, copy_of, formatted}
 pub use Rattle.model.specs.Groups.{padded}
-use Rattle.model.specs.Groups.{last, payloadOf, stands, writeAt, isLastWrite}
-use Rattle.model.specs.Refusals.{Job, cold, ready, writing, recovering, grouping, isReady, View, writeTotal, cleanupTotal, startNumber, formatNumber, beginNumber, groupNumber, stepNumber, wakeNumber, cutNumber, readNumber, inspectNumber, rideNumber, totalNumber, paidNumber}
-use Rattle.model.specs.Stores.{Store, writeStores, cleanupStores, stored}
+use Rattle.model.specs.Groups.{last, payload_of, stands, write_at, is_last_write}
+use Rattle.model.specs.Refusals.{Job, cold, ready, writing, recovering, grouping, is_ready, View, write_total, cleanup_total, start_number, format_number, begin_number, group_number, step_number, wake_number, cut_number, read_number, inspect_number, ride_number, total_number, paid_number}
+use Rattle.model.specs.Stores.{Store, write_stores, cleanup_stores, stored}
 use Rattle.model.specs.Turns.{amount, plus}
-use Rattle.model.specs.Prices.{paidGroup}
+use Rattle.model.specs.Prices.{paid_group}
 
 -- "The device is a plan, a 256-byte payload and a phase." Ticket 5: "a 32-bit count of completed stores". The library's struct has
 -- the same fields.
@@ -41,41 +41,41 @@ abbrev pub outcome : ℕ → Device → List ℕ → Outcome
 outcome n d image = record { number = n; device = d; image = image }
 
 -- ---- The next device of each call. These alone build one.
-abbrev pub zeroPayload : List ℕ
-zeroPayload = replicate 256 0
+abbrev pub zero_payload : List ℕ
+zero_payload = replicate 256 0
 
 -- "Start (from a plan) keeps the plan as given, all eight widths, with Cold and a zero payload." "Start and format set it to 0"
-abbrev pub asStarted : Plan → Device
-asStarted p = record { plan = p; payload = zeroPayload; phase = Cold; stores = 0 }
+abbrev pub as_started : Plan → Device
+as_started p = record { plan = p; payload = zero_payload; phase = Cold; stores = 0 }
 
 -- "payload zero, phase Ready"
-abbrev pub asFormatted : Device → Device
-asFormatted d = record { plan = d.plan; payload = zeroPayload; phase = Ready; stores = 0 }
+abbrev pub as_formatted : Device → Device
+as_formatted d = record { plan = d.plan; payload = zero_payload; phase = Ready; stores = 0 }
 
 -- "the payload goes into the device, zeros after it; phase Writing, 0 made"
-abbrev pub asBegun : ℕ → List ℕ → Device → Device
-asBegun u held d = record { plan = d.plan; payload = held; phase = Writing u 0; stores = d.stores }
+abbrev pub as_begun : ℕ → List ℕ → Device → Device
+as_begun u held d = record { plan = d.plan; payload = held; phase = Writing u 0; stores = d.stores }
 
 -- Ticket 10: "A group phase .. the payload being the record, zeros after it"
-abbrev pub asGrouped : List ℕ → Device → Device
-asGrouped held d = record { plan = d.plan; payload = held; phase = Grouping 0 0; stores = d.stores }
+abbrev pub as_grouped : List ℕ → Device → Device
+as_grouped held d = record { plan = d.plan; payload = held; phase = Grouping 0 0; stores = d.stores }
 
 -- Ticket 5: "each completed step adds 1, and it holds at 4,294,967,295"
-abbrev pub mostStores : ℕ
-mostStores = 4294967295
+abbrev pub most_stores : ℕ
+most_stores = 4294967295
 
 unfoldable pub counted : ℕ → ℕ
-counted n = cond (ltb n mostStores) (suc n) n
+counted n = cond (ltb n most_stores) (suc n) n
 
-abbrev pub asStepped : Phase → List ℕ → Device → Device
-asStepped phase held d = record { plan = d.plan; payload = held; phase = phase; stores = counted d.stores }
+abbrev pub as_stepped : Phase → List ℕ → Device → Device
+as_stepped phase held d = record { plan = d.plan; payload = held; phase = phase; stores = counted d.stores }
 
-abbrev pub asWoken : Phase → List ℕ → Device → Device
-asWoken phase held d = record { plan = d.plan; payload = held; phase = phase; stores = d.stores }
+abbrev pub as_woken : Phase → List ℕ → Device → Device
+as_woken phase held d = record { plan = d.plan; payload = held; phase = phase; stores = d.stores }
 
 -- "The device is then Cold with a zero payload." Ticket 5: "A torn store doesn't count; cut keeps the number"
-abbrev pub asCut : Device → Device
-asCut d = record { plan = d.plan; payload = zeroPayload; phase = Cold; stores = d.stores }
+abbrev pub as_cut : Device → Device
+as_cut d = record { plan = d.plan; payload = zero_payload; phase = Cold; stores = d.stores }
 
 -- ---- What a call is judged by.
 abbrev pub job_of : Phase → Job
@@ -100,167 +100,167 @@ abbrev pub view : Device → List ℕ → View
 view d image = view_of d.plan d.payload d.phase image
 
 -- "A refusal returns the device it got and changes no lent byte."
-abbrev pub unlessRefused : ℕ → Device → List ℕ → Outcome → Outcome
-unlessRefused zero d image accepted = accepted
-unlessRefused (suc n) d image accepted = outcome (suc n) d image
+abbrev pub unless_refused : ℕ → Device → List ℕ → Outcome → Outcome
+unless_refused zero d image accepted = accepted
+unless_refused (suc n) d image accepted = outcome (suc n) d image
 
 -- ---- The store that comes next, and the phase after it.
 unfoldable pub next : Plan → List ℕ → List ℕ → Phase → Option Store
 next p payload image Cold = none
 next p payload image Ready = none
-next p payload image (Writing u made) = get_elem? (writeStores p u payload) made
-next p payload image (Recovering u made d) = get_elem? (cleanupStores p image u d) made
+next p payload image (Writing u made) = get_elem? (write_stores p u payload) made
+next p payload image (Recovering u made d) = get_elem? (cleanup_stores p image u d) made
 next p payload image (Grouping i made) =
-    get_elem? (writeStores p (writeAt p payload i).unit (writeAt p payload i).bytes) made
+    get_elem? (write_stores p (write_at p payload i).unit (write_at p payload i).bytes) made
 
 -- the image after the next store, completed or torn; "in Cold and Ready it stores nothing"
-unfoldable pub imageAfter : End → Device → List ℕ → List ℕ
-imageAfter e d image = stored d.plan image e (next d.plan d.payload image d.phase)
+unfoldable pub image_after : End → Device → List ℕ → List ℕ
+image_after e d image = stored d.plan image e (next d.plan d.payload image d.phase)
 
 -- Ticket 3: "the lowest unit whose marker isn't 1": of the n units from u on, or none
-unfoldable pub lowestBad : Plan → List ℕ → ℕ → ℕ → Option ℕ
-lowestBad p image zero u = none
-lowestBad p image (suc n) u = cond (eqb (get p image u marker) OK) (lowestBad p image n (suc u)) (some u)
+unfoldable pub lowest_bad : Plan → List ℕ → ℕ → ℕ → Option ℕ
+lowest_bad p image zero u = none
+lowest_bad p image (suc n) u = cond (eqb (get p image u marker) OK) (lowest_bad p image n (suc u)) (some u)
 
 -- "Every cleanup begins with 0 made." The cleanup of the unit found, or Ready.
-abbrev pub cleanupOf : Plan → List ℕ → Option ℕ → Phase
-cleanupOf p image none = Ready
-cleanupOf p image (some u) = Recovering u 0 (direction (get p image u marker))
+abbrev pub cleanup_of : Plan → List ℕ → Option ℕ → Phase
+cleanup_of p image none = Ready
+cleanup_of p image (some u) = Recovering u 0 (direction (get p image u marker))
 
-abbrev pub cleanupFrom : Plan → List ℕ → ℕ → Phase
-cleanupFrom p image u = cleanupOf p image (lowestBad p image (p.count - u) u)
+abbrev pub cleanup_from : Plan → List ℕ → ℕ → Phase
+cleanup_from p image u = cleanup_of p image (lowest_bad p image (p.count - u) u)
 
 -- Ticket 10: "Wake's cleanup, once done, or wake itself where every marker is 1, goes on, by steps, to write the members of a
 -- standing record again and clears it": whether it does, from the phase that the search for a cleanup came to. Ticket 7: "here and
 -- in later tickets, a unit's total or record is taken from copy A".
-abbrev pub recordIn : Plan → List ℕ → List ℕ
-recordIn p image = copy_of p image (last p) copyA
+abbrev pub record_in : Plan → List ℕ → List ℕ
+record_in p image = copy_of p image (last p) copy_a
 
 unfoldable pub resumes : Plan → List ℕ → Phase → Bool
-resumes p image found = isReady (job_of found) && stands p (recordIn p image)
+resumes p image found = is_ready (job_of found) && stands p (record_in p image)
 
 -- the members are the writes from 1 on; "the payload being the record, zeros after it"
 abbrev pub resumed : Plan → List ℕ → Phase → Phase
 resumed p image found = cond (resumes p image found) (Grouping 1 0) found
 
 abbrev pub reloaded : Plan → List ℕ → Phase → List ℕ → List ℕ
-reloaded p image found payload = cond (resumes p image found) (padded (recordIn p image)) payload
+reloaded p image found payload = cond (resumes p image found) (padded (record_in p image)) payload
 
 -- "adds 1. After a write's last store the phase is Ready. After a cleanup's last, it is the cleanup of the next higher unit
 -- whose marker isn't 1, or Ready." Ticket 10: "Steps write the record, then each member in order, then a record of zeros."
-unfoldable pub phaseAfter : Plan → List ℕ → List ℕ → Phase → Phase
-phaseAfter p payload image Cold = Cold
-phaseAfter p payload image Ready = Ready
-phaseAfter p payload image (Writing u made) =
-    cond (eqb (suc made) (writeTotal (width p u))) Ready (Writing u (suc made))
-phaseAfter p payload image (Recovering u made d) =
-    cond (eqb (suc made) (cleanupTotal (width p u))) (resumed p image (cleanupFrom p image (suc u))) (Recovering u (suc made) d)
-phaseAfter p payload image (Grouping i made) =
-    cond (eqb (suc made) (writeTotal (width p (writeAt p payload i).unit)))
-    (cond (isLastWrite p payload i) Ready (Grouping (suc i) 0))
+unfoldable pub phase_after : Plan → List ℕ → List ℕ → Phase → Phase
+phase_after p payload image Cold = Cold
+phase_after p payload image Ready = Ready
+phase_after p payload image (Writing u made) =
+    cond (eqb (suc made) (write_total (width p u))) Ready (Writing u (suc made))
+phase_after p payload image (Recovering u made d) =
+    cond (eqb (suc made) (cleanup_total (width p u))) (resumed p image (cleanup_from p image (suc u))) (Recovering u (suc made) d)
+phase_after p payload image (Grouping i made) =
+    cond (eqb (suc made) (write_total (width p (write_at p payload i).unit)))
+    (cond (is_last_write p payload i) Ready (Grouping (suc i) 0))
     (Grouping i (suc made))
 
 -- "The payload stays.", but where a cleanup's last store goes on to a standing record
-unfoldable pub payloadAfter : Plan → List ℕ → List ℕ → Phase → List ℕ
-payloadAfter p payload image Cold = payload
-payloadAfter p payload image Ready = payload
-payloadAfter p payload image (Writing u made) = payload
-payloadAfter p payload image (Recovering u made d) =
-    cond (eqb (suc made) (cleanupTotal (width p u))) (reloaded p image (cleanupFrom p image (suc u)) payload) payload
-payloadAfter p payload image (Grouping i made) = payload
+unfoldable pub payload_after : Plan → List ℕ → List ℕ → Phase → List ℕ
+payload_after p payload image Cold = payload
+payload_after p payload image Ready = payload
+payload_after p payload image (Writing u made) = payload
+payload_after p payload image (Recovering u made d) =
+    cond (eqb (suc made) (cleanup_total (width p u))) (reloaded p image (cleanup_from p image (suc u)) payload) payload
+payload_after p payload image (Grouping i made) = payload
 
 -- ---- The calls.
 -- "start's refusal returns k = 0, all widths 0, Cold, zero payload"; Ticket 9: "p = 1, as in a refused start"; Ticket 10: "A device may
 -- be started as grouped (a refused start isn't)"; Ticket 11: "all nothing if refused"
-abbrev pub noPlan : Plan
-noPlan = record { count = 0; widths = replicate 8 0; page = 1; grouped = false; rights = noRights }
+abbrev pub no_plan : Plan
+no_plan = record { count = 0; widths = replicate 8 0; page = 1; grouped = false; rights = no_rights }
 
-abbrev pub startAnswer : ℕ → Plan → Answer
-startAnswer zero p = record { number = 0; device = asStarted p }
-startAnswer (suc n) p = record { number = suc n; device = asStarted noPlan }
+abbrev pub start_answer : ℕ → Plan → Answer
+start_answer zero p = record { number = 0; device = as_started p }
+start_answer (suc n) p = record { number = suc n; device = as_started no_plan }
 
 unfoldable pub start : Plan → Answer
-start p = startAnswer (startNumber p) p
+start p = start_answer (start_number p) p
 
 -- "zeros in all units, every marker 1, payload zero, phase Ready"
 unfoldable pub format : Device → List ℕ → Outcome
 format d image =
-    unlessRefused (formatNumber (view d image)) d image (outcome 0 (asFormatted d) (formatted d.plan image))
+    unless_refused (format_number (view d image)) d image (outcome 0 (as_formatted d) (formatted d.plan image))
 
 -- "stores nothing; the payload goes into the device"
 unfoldable pub begin : Device → List ℕ → Role → ℕ → List ℕ → Outcome
 begin d image role u payload =
-    unlessRefused (beginNumber (view d image) role u (length payload)) d image (outcome 0 (asBegun u (padded payload) d) image)
+    unless_refused (begin_number (view d image) role u (length payload)) d image (outcome 0 (as_begun u (padded payload) d) image)
 
 -- Ticket 7: "a unit's total or record is taken from copy A"
-abbrev pub heldIn : Device → List ℕ → ℕ → List ℕ
-heldIn d image u = copy_of d.plan image u copyA
+abbrev pub held_in : Device → List ℕ → ℕ → List ℕ
+held_in d image u = copy_of d.plan image u copy_a
 
 -- "takes a ride's turns (64 bits) and begins a write of total plus turns", of unit 0
 unfoldable pub ride : Device → List ℕ → ℕ → Outcome
 ride d image turns =
-    unlessRefused (rideNumber (view d image) (heldIn d image 0) turns) d image
-    (outcome 0 (asBegun 0 (padded (plus (heldIn d image 0) turns)) d) image)
+    unless_refused (ride_number (view d image) (held_in d image 0) turns) d image
+    (outcome 0 (as_begun 0 (padded (plus (held_in d image 0) turns)) d) image)
 
 -- Ticket 10: "A group, in Ready only (else 5), is the bytes of 2 to 4 members"
 unfoldable pub group : Device → List ℕ → List ℕ → Outcome
 group d image g =
-    unlessRefused (groupNumber (view d image) g) d image (outcome 0 (asGrouped (payloadOf d.plan g) d) image)
+    unless_refused (group_number (view d image) g) d image (outcome 0 (as_grouped (payload_of d.plan g) d) image)
 
 -- Ticket 12: the group of unit 0 with its total and the turns, and of unit 1 with its cents and the price
-abbrev pub paidIn : Device → List ℕ → ℕ → List ℕ
-paidIn d image turns = paidGroup (heldIn d image 0) (heldIn d image 1) turns
+abbrev pub paid_in : Device → List ℕ → ℕ → List ℕ
+paid_in d image turns = paid_group (held_in d image 0) (held_in d image 1) turns
 
-unfoldable pub paidRide : Device → List ℕ → ℕ → Outcome
-paidRide d image turns =
-    unlessRefused (paidNumber (view d image) (heldIn d image 0) (heldIn d image 1) turns) d image
-    (outcome 0 (asGrouped (payloadOf d.plan (paidIn d image turns)) d) image)
+unfoldable pub paid_ride : Device → List ℕ → ℕ → Outcome
+paid_ride d image turns =
+    unless_refused (paid_number (view d image) (held_in d image 0) (held_in d image 1) turns) d image
+    (outcome 0 (as_grouped (payload_of d.plan (paid_in d image turns)) d) image)
 
 -- "makes the next store and adds 1"
-abbrev pub stepFrom : Device → List ℕ → Device
-stepFrom d image =
-    asStepped (phaseAfter d.plan d.payload image d.phase) (payloadAfter d.plan d.payload image d.phase) d
+abbrev pub step_from : Device → List ℕ → Device
+step_from d image =
+    as_stepped (phase_after d.plan d.payload image d.phase) (payload_after d.plan d.payload image d.phase) d
 
 unfoldable pub step : Device → List ℕ → Outcome
 step d image =
-    unlessRefused (stepNumber (view d image)) d image
-    (outcome 0 (stepFrom d (imageAfter completed d image)) (imageAfter completed d image))
+    unless_refused (step_number (view d image)) d image
+    (outcome 0 (step_from d (image_after completed d image)) (image_after completed d image))
 
 -- "stores nothing; the cleanup of the lowest unit whose marker isn't 1, or Ready"; or on to a standing record
-abbrev pub wakeFrom : Device → List ℕ → Phase → Device
-wakeFrom d image found = asWoken (resumed d.plan image found) (reloaded d.plan image found d.payload) d
+abbrev pub wake_from : Device → List ℕ → Phase → Device
+wake_from d image found = as_woken (resumed d.plan image found) (reloaded d.plan image found d.payload) d
 
 unfoldable pub wake : Device → List ℕ → Outcome
 wake d image =
-    unlessRefused (wakeNumber (view d image)) d image (outcome 0 (wakeFrom d image (cleanupFrom d.plan image 0)) image)
+    unless_refused (wake_number (view d image)) d image (outcome 0 (wake_from d image (cleanup_from d.plan image 0)) image)
 
 -- "in Writing or Recovering it tears the next store; in Cold and Ready it stores nothing"; Ticket 9: "Cut now takes p bytes"; Ticket 10:
 -- "A group phase, torn by cut as Writing is"
 unfoldable pub cut : Device → List ℕ → List ℕ → Outcome
 cut d image bytes =
-    unlessRefused (cutNumber (view d image) (length bytes)) d image (outcome 0 (asCut d) (imageAfter (tornBy bytes) d image))
+    unless_refused (cut_number (view d image) (length bytes)) d image (outcome 0 (as_cut d) (image_after (torn_by bytes) d image))
 
 -- "the part of the lent image that is copy A, not a copy; an empty part when refused"
-abbrev pub partUnlessRefused : ℕ → List ℕ → List ℕ
-partUnlessRefused zero part = part
-partUnlessRefused (suc n) part = []
+abbrev pub part_unless_refused : ℕ → List ℕ → List ℕ
+part_unless_refused zero part = part
+part_unless_refused (suc n) part = []
 
 unfoldable pub read : Device → List ℕ → Role → ℕ → List ℕ
-read d image role u = partUnlessRefused (readNumber (view d image) role u) (copy_of d.plan image u copyA)
+read d image role u = part_unless_refused (read_number (view d image) role u) (copy_of d.plan image u copy_a)
 
--- "A companion call gives the number, 0 or a refusal": readNumber (view d image) role u.
+-- "A companion call gives the number, 0 or a refusal": read_number (view d image) role u.
 
 -- a unit's total as a number, 0 when refused
 pub record Total : Type 0 where
   pub number : ℕ
   pub amount : ℕ
 
-abbrev pub totalUnlessRefused : ℕ → ℕ → Total
-totalUnlessRefused zero n = record { number = 0; amount = n }
-totalUnlessRefused (suc refusal) n = record { number = suc refusal; amount = 0 }
+abbrev pub total_unless_refused : ℕ → ℕ → Total
+total_unless_refused zero n = record { number = 0; amount = n }
+total_unless_refused (suc refusal) n = record { number = suc refusal; amount = 0 }
 
 unfoldable pub total_of : Device → List ℕ → Role → ℕ → Total
-total_of d image role u = totalUnlessRefused (totalNumber (view d image) role u) (amount (heldIn d image u))
+total_of d image role u = total_unless_refused (total_number (view d image) role u) (amount (held_in d image u))
 
 abbrev pub AllMarkersOk : Plan → List ℕ → Type 0
 AllMarkersOk p image = (u : ℕ) → u < p.count → get p image u marker ≡ OK
@@ -273,4 +273,4 @@ inspection zero none = AllOk
 
 -- Ticket 3: "Inspect now names the lowest unit whose marker isn't 1"; "none exactly if all are 1"
 unfoldable pub inspect : Device → List ℕ → Inspection
-inspect d image = inspection (inspectNumber (view d image)) (lowestBad d.plan image d.plan.count 0)
+inspect d image = inspection (inspect_number (view d image)) (lowest_bad d.plan image d.plan.count 0)

@@ -2,13 +2,13 @@
 use Rattle.std.specs.Prelude.{ℕ, zero, suc, ◌≡◌, false, List, [], ◌∷◌, ◌++◌, map, length, take, replicate}
 use Rattle.model.specs.declared.Plan.{Plan}
 use Rattle.model.specs.declared.Role.TheVariants.{Service}
-use Rattle.model.specs.Rights.{serviceRights}
+use Rattle.model.specs.Rights.{service_rights}
 use Rattle.model.specs.Layout.{total}
 use Rattle.model.specs.Calls.{Outcome}
 use Rattle.model.specs.Calls as calls
 use Rattle.model.specs.Ledger.{Call, begin, step, cut, wake, opening, tells, after}
 use Rattle.model.specs.PowerCut.{run, answers}
-use Rattle.model.specs.Drive.{driveNumber, drive}
+use Rattle.model.specs.Drive.{drive_number, drive}
 
 pub data Question : Type 0 where
   -- a bench script: the widths of its plan, and the calls after it
@@ -25,7 +25,7 @@ pub data Result : Type 0 where
   drives : ℕ → ℕ → Result
 
 abbrev pub paged : ℕ → List ℕ → ℕ → Plan
-paged count widths page = record { count = count; widths = widths; page = page; grouped = false; rights = serviceRights }
+paged count widths page = record { count = count; widths = widths; page = page; grouped = false; rights = service_rights }
 
 abbrev pub planned : ℕ → List ℕ → Plan
 planned count widths = paged count widths 1
@@ -34,21 +34,21 @@ planned count widths = paged count widths 1
 abbrev plan_of : List ℕ → Plan
 plan_of widths = planned (length widths) (take 8 (widths ++ replicate 8 0))
 
-abbrev formattedBy : Plan → Outcome
-formattedBy p = calls.format (calls.start p).device (replicate (total p) 7)
+abbrev formatted_by : Plan → Outcome
+formatted_by p = calls.format (calls.start p).device (replicate (total p) 7)
 
 abbrev played : ℕ → Plan → List Call → Result
 played zero p cs =
     ends
-    (answers cs (formattedBy p))
+    (answers cs (formatted_by p))
     (tells p (opening p) cs)
-    (run cs (formattedBy p)).image
+    (run cs (formatted_by p)).image
     ((after p (opening p) cs).saved 0)
 played (suc n) p cs = refused (suc n)
 
 abbrev pub result_of : Question → Result
 result_of (script widths cs) = played (calls.start (plan_of widths)).number (plan_of widths) cs
-result_of (driven l r) = drives (driveNumber l r) (drive l r)
+result_of (driven l r) = drives (drive_number l r) (drive l r)
 
 pub record Case : Type 0 where
   pub question : Question
@@ -58,12 +58,12 @@ abbrev case : Question → Result → Case
 case q r = record { question = q; result = r }
 
 -- "`(cut HH)` is a cut of one byte"
-abbrev pub cutOne : ℕ → Call
-cutOne m = cut (m ∷ [])
+abbrev pub cut_one : ℕ → Call
+cut_one m = cut (m ∷ [])
 
 -- `(write 0 (0a 0b))`, n steps and a cut, on the plan `(2 1)`; and the same with more calls after it
 abbrev saved : ℕ → ℕ → List Call → Question
-saved n m more = script (2 ∷ 1 ∷ []) (begin Service 0 (10 ∷ 11 ∷ []) ∷ replicate n step ++ (cutOne m ∷ more))
+saved n m more = script (2 ∷ 1 ∷ []) (begin Service 0 (10 ∷ 11 ∷ []) ∷ replicate n step ++ (cut_one m ∷ more))
 
 -- all of n calls are accepted, and unit 1 is left alone
 abbrev leaves : ℕ → List ℕ → List ℕ → Result
@@ -87,7 +87,7 @@ table =
     ∷ case (saved 0 255 repaired) (leaves 6 (1 ∷ 0 ∷ 0 ∷ 0 ∷ 0 ∷ []) (0 ∷ 0 ∷ []))
     -- C5: recovering from marker 6, cut 02 at the last store: 6 becomes 4, copies equal
     ∷ case (saved 3 4 []) (leaves 5 (6 ∷ 10 ∷ 11 ∷ 0 ∷ 0 ∷ []) (10 ∷ 11 ∷ []))
-    ∷ case (saved 3 4 (wake ∷ step ∷ step ∷ cutOne 2 ∷ [])) (leaves 9 (4 ∷ 10 ∷ 11 ∷ 10 ∷ 11 ∷ []) (10 ∷ 11 ∷ []))
+    ∷ case (saved 3 4 (wake ∷ step ∷ step ∷ cut_one 2 ∷ [])) (leaves 9 (4 ∷ 10 ∷ 11 ∷ 10 ∷ 11 ∷ []) (10 ∷ 11 ∷ []))
     -- C6: a ninth script width gives `plan 1`
     ∷ case (script (replicate 9 1) []) (refused 1)
     -- C7: width 256 passes, 257 is 2

@@ -7,8 +7,8 @@ use Rattle.model.specs.declared.Direction.TheVariants.{AToB, BToA}
 use Rattle.model.specs.declared.Inspection.TheVariants.{Suspect, AllOk}
 use Rattle.model.specs.declared.Phase.{Phase}
 use Rattle.model.specs.declared.Phase.TheVariants.{Cold, Ready, Writing, Recovering}
-use Rattle.model.specs.Layout.{copyA, copyB, marker, byte, wholePages, total, place}
-use Rattle.model.specs.Calls.{Device, zeroPayload}
+use Rattle.model.specs.Layout.{copy_a, copy_b, marker, byte, whole_pages, total, place}
+use Rattle.model.specs.Calls.{Device, zero_payload}
 use Rattle.model.specs.Calls as calls
 use Rattle.model.specs.Cases.{paged}
 
@@ -29,17 +29,17 @@ roundings =
     ∷ rounding 16 1 16 ∷ rounding 16 16 16 ∷ rounding 16 17 32 ∷ rounding 16 255 256 ∷ rounding 16 256 256 ∷ []
 
 abbrev pub EveryRounding : Type 0
-EveryRounding = map (λ (r : Rounding). wholePages r.page r.width) roundings ≡ map (λ (r : Rounding). r.bytes) roundings
+EveryRounding = map (λ (r : Rounding). whole_pages r.page r.width) roundings ≡ map (λ (r : Rounding). r.bytes) roundings
 
 -- ---- two units of 6 bytes and 1, at each size: where marker, first and last byte of A and of B lie, and where the units end
-abbrev sixAndOne : ℕ → Plan
-sixAndOne page = paged 2 (6 ∷ 1 ∷ replicate 6 0) page
+abbrev six_and_one : ℕ → Plan
+six_and_one page = paged 2 (6 ∷ 1 ∷ replicate 6 0) page
 
 abbrev places : ℕ → List ℕ
 places page =
-    let p : Plan = sixAndOne page in
-    place p 0 marker ∷ place p 0 (byte copyA 0) ∷ place p 0 (byte copyA 5) ∷ place p 0 (byte copyB 0) ∷ place p 0 (byte copyB 5)
-    ∷ place p 1 marker ∷ place p 1 (byte copyA 0) ∷ place p 1 (byte copyB 0) ∷ total p ∷ []
+    let p : Plan = six_and_one page in
+    place p 0 marker ∷ place p 0 (byte copy_a 0) ∷ place p 0 (byte copy_a 5) ∷ place p 0 (byte copy_b 0) ∷ place p 0 (byte copy_b 5)
+    ∷ place p 1 marker ∷ place p 1 (byte copy_a 0) ∷ place p 1 (byte copy_b 0) ∷ total p ∷ []
 
 abbrev pub EveryPlace : Type 0
 EveryPlace =
@@ -65,25 +65,25 @@ asked p phase n bytes start cut = record { plan = p; phase = phase; long = n; by
 abbrev pub askings : List Asked
 askings =
     -- another page size, before 3 and 4
-    asked (sixAndOne 0) (Writing 9 0) 0 0 17 17
-    ∷ asked (sixAndOne 2) (Writing 9 0) 0 2 17 17
-    ∷ asked (sixAndOne 3) Ready 64 3 17 17
-    ∷ asked (sixAndOne 17) Ready 64 16 17 17
-    ∷ asked (sixAndOne 32) Ready 256 32 17 17
+    asked (six_and_one 0) (Writing 9 0) 0 0 17 17
+    ∷ asked (six_and_one 2) (Writing 9 0) 0 2 17 17
+    ∷ asked (six_and_one 3) Ready 64 3 17 17
+    ∷ asked (six_and_one 17) Ready 64 16 17 17
+    ∷ asked (six_and_one 32) Ready 256 32 17 17
     -- after 1 and 2
     ∷ asked (paged 9 (replicate 8 1) 2) Ready 64 2 1 1
     ∷ asked (paged 2 (6 ∷ 257 ∷ replicate 6 0) 2) Ready 64 2 2 2
     -- a page's bytes, and one less, one more and none
-    ∷ asked (sixAndOne 4) (Writing 0 0) 32 4 0 0
-    ∷ asked (sixAndOne 4) (Writing 0 0) 32 3 0 18
-    ∷ asked (sixAndOne 4) (Recovering 0 0 AToB) 32 5 0 18
-    ∷ asked (sixAndOne 4) Cold 32 1 0 18
-    ∷ asked (sixAndOne 1) Ready 16 0 0 18
-    ∷ asked (sixAndOne 1) Cold 16 1 0 0
-    ∷ asked (sixAndOne 16) Ready 96 16 0 0
+    ∷ asked (six_and_one 4) (Writing 0 0) 32 4 0 0
+    ∷ asked (six_and_one 4) (Writing 0 0) 32 3 0 18
+    ∷ asked (six_and_one 4) (Recovering 0 0 AToB) 32 5 0 18
+    ∷ asked (six_and_one 4) Cold 32 1 0 18
+    ∷ asked (six_and_one 1) Ready 16 0 0 18
+    ∷ asked (six_and_one 1) Cold 16 1 0 0
+    ∷ asked (six_and_one 16) Ready 96 16 0 0
     -- after 3 and 4
-    ∷ asked (sixAndOne 4) (Writing 9 0) 31 1 0 3
-    ∷ asked (sixAndOne 4) (Writing 2 0) 32 1 0 4
+    ∷ asked (six_and_one 4) (Writing 9 0) 31 1 0 3
+    ∷ asked (six_and_one 4) (Writing 2 0) 32 1 0 4
     ∷ []
 
 abbrev on : Plan → Phase → List ℕ → Device
@@ -92,7 +92,7 @@ on p phase payload = record { plan = p; payload = payload; phase = phase; stores
 abbrev pub EveryAsking : Type 0
 EveryAsking =
     map (λ (a : Asked). (calls.start a.plan).number) askings ≡ map (λ (a : Asked). a.start) askings
-    × (map (λ (a : Asked). (calls.cut (on a.plan a.phase zeroPayload) (replicate a.long 1) (replicate a.bytes 0)).number) askings
+    × (map (λ (a : Asked). (calls.cut (on a.plan a.phase zero_payload) (replicate a.long 1) (replicate a.bytes 0)).number) askings
     ≡ map (λ (a : Asked). a.cut) askings)
 
 -- ---- whole images, page size 4: unit 0's marker page and its copies of two pages each; unit 1 stands as `rest`
@@ -116,7 +116,7 @@ abbrev payload6 : List ℕ
 payload6 = 31 ∷ 32 ∷ 33 ∷ 34 ∷ 35 ∷ 36 ∷ replicate 250 0
 
 abbrev tearing : Phase → List ℕ → List ℕ → List ℕ
-tearing phase bytes before = (calls.cut (on (sixAndOne 4) phase payload6) before bytes).image
+tearing phase bytes before = (calls.cut (on (six_and_one 4) phase payload6) before bytes).image
 
 abbrev pub EveryTear : Type 0
 EveryTear =
@@ -150,10 +150,10 @@ EveryTear =
 -- ---- format: every byte of the units, and none after them; steps store single bytes; read shows A without filler
 abbrev pub EveryPaged : Type 0
 EveryPaged =
-    ((calls.format (on (sixAndOne 4) Cold payload6) (replicate 33 7)).image
+    ((calls.format (on (six_and_one 4) Cold payload6) (replicate 33 7)).image
     ≡ (1 ∷ replicate 19 0) ++ (1 ∷ replicate 11 0) ++ (7 ∷ []))
-    × ((calls.step (on (sixAndOne 4) (Writing 0 13) payload6) (image (mark_of 4) one ended one ended)).image
+    × ((calls.step (on (six_and_one 4) (Writing 0 13) payload6) (image (mark_of 4) one ended one ended)).image
     ≡ image (mark_of 4) one ended one (5 ∷ 36 ∷ 53 ∷ 54 ∷ []))
-    × (calls.read (on (sixAndOne 4) Ready payload6) (image (mark_of 1) one ended given ended) Service 0 ≡ 1 ∷ 2 ∷ 3 ∷ 4 ∷ 5 ∷ 6 ∷ [])
-    × (calls.inspect (on (sixAndOne 4) Cold payload6) (image (mark_of 1) one ended one ended) ≡ AllOk)
-    × (calls.inspect (on (sixAndOne 4) Cold payload6) (image (mark_of 3) one ended one ended) ≡ Suspect 0)
+    × (calls.read (on (six_and_one 4) Ready payload6) (image (mark_of 1) one ended given ended) Service 0 ≡ 1 ∷ 2 ∷ 3 ∷ 4 ∷ 5 ∷ 6 ∷ [])
+    × (calls.inspect (on (six_and_one 4) Cold payload6) (image (mark_of 1) one ended one ended) ≡ AllOk)
+    × (calls.inspect (on (six_and_one 4) Cold payload6) (image (mark_of 3) one ended one ended) ≡ Suspect 0)

@@ -5,14 +5,14 @@ use Rattle.model.specs.declared.Plan.{Plan}
 use Rattle.model.specs.declared.Role.TheVariants.{Service}
 use Rattle.model.specs.declared.Phase.{Phase}
 use Rattle.model.specs.declared.Phase.TheVariants.{Cold, Ready, Writing}
-use Rattle.model.specs.Layout.{copyA, copy_of}
-use Rattle.model.specs.Turns.{amount, inBytes}
+use Rattle.model.specs.Layout.{copy_a, copy_of}
+use Rattle.model.specs.Turns.{amount, in_bytes}
 use Rattle.model.specs.Calls.{Device, Outcome, Total}
 use Rattle.model.specs.Calls as calls
 use Rattle.model.specs.Ledger.{Call, begin, ride, step, wake}
 use Rattle.model.specs.PowerCut.{run, repair}
-use Rattle.model.specs.Totals.{turnsOver}
-use Rattle.model.specs.Cases.{planned, cutOne}
+use Rattle.model.specs.Totals.{turns_over}
+use Rattle.model.specs.Cases.{planned, cut_one}
 
 -- ---- "lowest byte first"
 abbrev pub EveryAmount : Type 0
@@ -22,7 +22,7 @@ EveryAmount =
 
 abbrev pub EveryBytes : Type 0
 EveryBytes =
-    map (inBytes 8) (1 ∷ 300 ∷ 65536 ∷ 18446744073709551615 ∷ [])
+    map (in_bytes 8) (1 ∷ 300 ∷ 65536 ∷ 18446744073709551615 ∷ [])
     ≡ (1 ∷ replicate 7 0) ∷ (44 ∷ 1 ∷ replicate 6 0) ∷ (0 ∷ 0 ∷ 1 ∷ replicate 5 0) ∷ replicate 8 255 ∷ []
 
 -- ---- A device of widths w and 1 over units whose markers are m, copy A of unit 0 as given, copy B ones.
@@ -124,8 +124,8 @@ tallied r =
     record {
       calls = r.calls;
       steps = r.steps;
-      sum = turnsOver plan81 r.calls;
-      total = amount (copy_of plan81 left.image 0 copyA);
+      sum = turns_over plan81 r.calls;
+      total = amount (copy_of plan81 left.image 0 copy_a);
     }
 
 -- a ride with n of its stores made, and then more
@@ -135,16 +135,16 @@ after turns n more = ride turns ∷ replicate n step ++ more
 abbrev pub tallies : List Ridden
 tallies =
     -- cut before its store w + 2, at it and leaving 2, at it and leaving 6, and after it
-    ridden (after 300 8 (cutOne 0 ∷ [])) 9 0
-    ∷ ridden (after 300 9 (cutOne 0 ∷ [])) 9 0
-    ∷ ridden (after 300 9 (cutOne 4 ∷ [])) 9 300
-    ∷ ridden (after 300 10 (cutOne 0 ∷ [])) 9 300
+    ridden (after 300 8 (cut_one 0 ∷ [])) 9 0
+    ∷ ridden (after 300 9 (cut_one 0 ∷ [])) 9 0
+    ∷ ridden (after 300 9 (cut_one 4 ∷ [])) 9 300
+    ∷ ridden (after 300 10 (cut_one 0 ∷ [])) 9 300
     -- a ride that passed, a write of unit 1, and one that did not pass; a ride is refused while one is written
-    ∷ ridden (after 300 19 (begin Service 1 (3 ∷ []) ∷ replicate 5 step ++ after 7 3 (ride 9 ∷ cutOne 0 ∷ []))) 9 300
+    ∷ ridden (after 300 19 (begin Service 1 (3 ∷ []) ∷ replicate 5 step ++ after 7 3 (ride 9 ∷ cut_one 0 ∷ []))) 9 300
     -- two rides, the second after a cut and its repair
-    ∷ ridden (after 300 12 (cutOne 0 ∷ wake ∷ replicate 9 step ++ after 500 19 (cutOne 0 ∷ []))) 0 800
+    ∷ ridden (after 300 12 (cut_one 0 ∷ wake ∷ replicate 9 step ++ after 500 19 (cut_one 0 ∷ []))) 0 800
     -- a sum of 65 bits is refused, and adds nothing
-    ∷ ridden (after 18446744073709551615 19 (after 1 19 (cutOne 0 ∷ []))) 0 18446744073709551615
+    ∷ ridden (after 18446744073709551615 19 (after 1 19 (cut_one 0 ∷ []))) 0 18446744073709551615
     ∷ []
 
 abbrev pub EveryTally : Type 0

@@ -6,8 +6,8 @@ use Rattle.model.specs.declared.Phase.TheVariants.{Cold, Ready}
 use Rattle.model.specs.declared.Rights.{Rights}
 use Rattle.model.specs.declared.Role.{Role}
 use Rattle.model.specs.declared.Role.TheVariants.{Rider, Gym, Service}
-use Rattle.model.specs.Refusals.{readNumber, totalNumber, beginNumber}
-use Rattle.model.specs.Calls.{Device, view, zeroPayload}
+use Rattle.model.specs.Refusals.{read_number, total_number, begin_number}
+use Rattle.model.specs.Calls.{Device, view, zero_payload}
 use Rattle.model.specs.Calls as calls
 use Rattle.model.specs.Ledger.{begin, opening, tells}
 
@@ -20,17 +20,17 @@ rights =
       service = 1 ∷ 2 ∷ 0 ∷ 0 ∷ 2 ∷ 1 ∷ 2 ∷ 0 ∷ [];
     }
 
-abbrev deviceWith : Rights → Bool → Phase → Device
-deviceWith table grouped phase =
+abbrev device_with : Rights → Bool → Phase → Device
+device_with table grouped phase =
     record {
       plan = record { count = 8; widths = replicate 8 1; page = 1; grouped = grouped; rights = table };
-      payload = zeroPayload;
+      payload = zero_payload;
       phase = phase;
       stores = 0;
     }
 
 abbrev device : Bool → Phase → Device
-device = deviceWith rights
+device = device_with rights
 
 -- all eight units with this marker
 abbrev pub marked : ℕ → List ℕ
@@ -44,24 +44,24 @@ units = 0 ∷ 1 ∷ 2 ∷ 3 ∷ 4 ∷ 5 ∷ 6 ∷ 7 ∷ 8 ∷ []
 
 -- ---- each unit's number, and one past the last: of a read and of a begin, with every marker OK and with none
 abbrev reads_of : ℕ → Role → List ℕ
-reads_of m role = map (λ (u : ℕ). readNumber (view (device false Ready) (marked m)) role u) units
+reads_of m role = map (λ (u : ℕ). read_number (view (device false Ready) (marked m)) role u) units
 
-abbrev beginsOf : ℕ → Role → List ℕ
-beginsOf m role = map (λ (u : ℕ). beginNumber (view (device false Ready) (marked m)) role u 1) units
+abbrev begins_of : ℕ → Role → List ℕ
+begins_of m role = map (λ (u : ℕ). begin_number (view (device false Ready) (marked m)) role u 1) units
 
 pub record EveryRight : Type 0 where
-  pub readRider : reads_of 1 Rider ≡ 22 ∷ 0 ∷ 0 ∷ 22 ∷ 22 ∷ 0 ∷ 22 ∷ 0 ∷ 6 ∷ []
-  pub readGym : reads_of 1 Gym ≡ 0 ∷ 22 ∷ 0 ∷ 0 ∷ 0 ∷ 22 ∷ 22 ∷ 0 ∷ 6 ∷ []
-  pub readService : reads_of 1 Service ≡ 0 ∷ 0 ∷ 22 ∷ 22 ∷ 0 ∷ 0 ∷ 0 ∷ 22 ∷ 6 ∷ []
-  pub tornRider : reads_of 2 Rider ≡ 22 ∷ 8 ∷ 8 ∷ 22 ∷ 22 ∷ 8 ∷ 22 ∷ 8 ∷ 6 ∷ []
-  pub tornGym : reads_of 2 Gym ≡ 8 ∷ 22 ∷ 8 ∷ 8 ∷ 8 ∷ 22 ∷ 22 ∷ 8 ∷ 6 ∷ []
-  pub tornService : reads_of 2 Service ≡ 8 ∷ 8 ∷ 22 ∷ 22 ∷ 8 ∷ 8 ∷ 8 ∷ 22 ∷ 6 ∷ []
-  pub beginRider : beginsOf 1 Rider ≡ 22 ∷ 22 ∷ 0 ∷ 22 ∷ 22 ∷ 0 ∷ 22 ∷ 22 ∷ 6 ∷ []
-  pub beginGym : beginsOf 1 Gym ≡ 0 ∷ 22 ∷ 22 ∷ 0 ∷ 22 ∷ 22 ∷ 22 ∷ 0 ∷ 6 ∷ []
-  pub beginService : beginsOf 1 Service ≡ 22 ∷ 0 ∷ 22 ∷ 22 ∷ 0 ∷ 22 ∷ 0 ∷ 22 ∷ 6 ∷ []
-  pub beginTornRider : beginsOf 2 Rider ≡ 22 ∷ 22 ∷ 8 ∷ 22 ∷ 22 ∷ 8 ∷ 22 ∷ 22 ∷ 6 ∷ []
-  pub beginTornGym : beginsOf 2 Gym ≡ 8 ∷ 22 ∷ 22 ∷ 8 ∷ 22 ∷ 22 ∷ 22 ∷ 8 ∷ 6 ∷ []
-  pub beginTornService : beginsOf 2 Service ≡ 22 ∷ 8 ∷ 22 ∷ 22 ∷ 8 ∷ 22 ∷ 8 ∷ 22 ∷ 6 ∷ []
+  pub read_rider : reads_of 1 Rider ≡ 22 ∷ 0 ∷ 0 ∷ 22 ∷ 22 ∷ 0 ∷ 22 ∷ 0 ∷ 6 ∷ []
+  pub read_gym : reads_of 1 Gym ≡ 0 ∷ 22 ∷ 0 ∷ 0 ∷ 0 ∷ 22 ∷ 22 ∷ 0 ∷ 6 ∷ []
+  pub read_service : reads_of 1 Service ≡ 0 ∷ 0 ∷ 22 ∷ 22 ∷ 0 ∷ 0 ∷ 0 ∷ 22 ∷ 6 ∷ []
+  pub torn_rider : reads_of 2 Rider ≡ 22 ∷ 8 ∷ 8 ∷ 22 ∷ 22 ∷ 8 ∷ 22 ∷ 8 ∷ 6 ∷ []
+  pub torn_gym : reads_of 2 Gym ≡ 8 ∷ 22 ∷ 8 ∷ 8 ∷ 8 ∷ 22 ∷ 22 ∷ 8 ∷ 6 ∷ []
+  pub torn_service : reads_of 2 Service ≡ 8 ∷ 8 ∷ 22 ∷ 22 ∷ 8 ∷ 8 ∷ 8 ∷ 22 ∷ 6 ∷ []
+  pub begin_rider : begins_of 1 Rider ≡ 22 ∷ 22 ∷ 0 ∷ 22 ∷ 22 ∷ 0 ∷ 22 ∷ 22 ∷ 6 ∷ []
+  pub begin_gym : begins_of 1 Gym ≡ 0 ∷ 22 ∷ 22 ∷ 0 ∷ 22 ∷ 22 ∷ 22 ∷ 0 ∷ 6 ∷ []
+  pub begin_service : begins_of 1 Service ≡ 22 ∷ 0 ∷ 22 ∷ 22 ∷ 0 ∷ 22 ∷ 0 ∷ 22 ∷ 6 ∷ []
+  pub begin_torn_rider : begins_of 2 Rider ≡ 22 ∷ 22 ∷ 8 ∷ 22 ∷ 22 ∷ 8 ∷ 22 ∷ 22 ∷ 6 ∷ []
+  pub begin_torn_gym : begins_of 2 Gym ≡ 8 ∷ 22 ∷ 22 ∷ 8 ∷ 22 ∷ 22 ∷ 22 ∷ 8 ∷ 6 ∷ []
+  pub begin_torn_service : begins_of 2 Service ≡ 22 ∷ 8 ∷ 22 ∷ 22 ∷ 8 ∷ 22 ∷ 8 ∷ 22 ∷ 6 ∷ []
 
 -- ---- each value for each role and unit: the role's line is all v, the two others all w
 abbrev only : Role → ℕ → ℕ → Rights
@@ -72,8 +72,8 @@ only Service v w = record { rider = replicate 8 w; gym = replicate 8 w; service 
 -- the numbers of eight reads, and of eight begins
 abbrev valued : Role → ℕ → ℕ → List ℕ
 valued role v w =
-    map (λ (u : ℕ). readNumber (view (deviceWith (only role v w) false Ready) (marked 1)) role u) (take 8 units)
-    ++ map (λ (u : ℕ). beginNumber (view (deviceWith (only role v w) false Ready) (marked 1)) role u 1) (take 8 units)
+    map (λ (u : ℕ). read_number (view (device_with (only role v w) false Ready) (marked 1)) role u) (take 8 units)
+    ++ map (λ (u : ℕ). begin_number (view (device_with (only role v w) false Ready) (marked 1)) role u 1) (take 8 units)
 
 abbrev each : ℕ → ℕ → List ℕ
 each read begun = replicate 8 read ++ replicate 8 begun
@@ -81,43 +81,43 @@ each read begun = replicate 8 read ++ replicate 8 begun
 pub record EveryValue (role : Role) : Type 0 where
   pub nothing : valued role 0 2 ≡ each 22 22
   pub see : valued role 1 2 ≡ each 0 22
-  pub seeAndWrite : valued role 2 0 ≡ each 0 0
+  pub see_and_write : valued role 2 0 ≡ each 0 0
   -- what is none of the three
   pub three : valued role 3 2 ≡ each 22 22
   pub largest : valued role 255 2 ≡ each 22 22
 
 -- ---- the order: read 5, 6, 22, 8; a total 5, 6, 22, 8, 16; begin 5, 6, 20, 22, 7, 8
 abbrev read : Phase → ℕ → Role → ℕ → ℕ
-read phase m role u = readNumber (view (device false phase) (marked m)) role u
+read phase m role u = read_number (view (device false phase) (marked m)) role u
 
 abbrev total : Phase → ℕ → Role → ℕ → ℕ
-total phase m role u = totalNumber (view (device false phase) (marked m)) role u
+total phase m role u = total_number (view (device false phase) (marked m)) role u
 
 abbrev begun : Bool → Phase → ℕ → Role → ℕ → ℕ → ℕ
-begun grouped phase m role u size = beginNumber (view (device grouped phase) (marked m)) role u size
+begun grouped phase m role u size = begin_number (view (device grouped phase) (marked m)) role u size
 
 pub record EveryOrder : Type 0 where
   -- read
-  pub readCold : read Cold 2 Rider 8 ≡ 5
-  pub readPast : read Ready 2 Rider 8 ≡ 6
-  pub readHidden : read Ready 2 Rider 0 ≡ 22
-  pub readTorn : read Ready 2 Rider 1 ≡ 8
-  pub readSeen : read Ready 1 Rider 1 ≡ 0
+  pub read_cold : read Cold 2 Rider 8 ≡ 5
+  pub read_past : read Ready 2 Rider 8 ≡ 6
+  pub read_hidden : read Ready 2 Rider 0 ≡ 22
+  pub read_torn : read Ready 2 Rider 1 ≡ 8
+  pub read_seen : read Ready 1 Rider 1 ≡ 0
   -- a total
-  pub totalCold : total Cold 2 Rider 8 ≡ 5
-  pub totalPast : total Ready 2 Rider 8 ≡ 6
-  pub totalHidden : total Ready 2 Rider 0 ≡ 22
-  pub totalTorn : total Ready 2 Rider 1 ≡ 8
-  pub totalNarrow : total Ready 1 Rider 1 ≡ 16
+  pub total_cold : total Cold 2 Rider 8 ≡ 5
+  pub total_past : total Ready 2 Rider 8 ≡ 6
+  pub total_hidden : total Ready 2 Rider 0 ≡ 22
+  pub total_torn : total Ready 2 Rider 1 ≡ 8
+  pub total_narrow : total Ready 1 Rider 1 ≡ 16
   -- begin: unit 7 is the record where the device is grouped, a rider may not write it and the gym may
-  pub beginCold : begun true Cold 2 Rider 8 0 ≡ 5
-  pub beginPast : begun true Ready 2 Rider 8 0 ≡ 6
-  pub beginRecord : begun true Ready 2 Rider 7 0 ≡ 20
-  pub beginRecordToo : begun true Ready 2 Gym 7 0 ≡ 20
-  pub beginBarred : begun false Ready 2 Rider 7 0 ≡ 22
-  pub beginSize : begun false Ready 2 Gym 7 0 ≡ 7
-  pub beginTorn : begun false Ready 2 Gym 7 1 ≡ 8
-  pub beginGood : begun false Ready 1 Gym 7 1 ≡ 0
+  pub begin_cold : begun true Cold 2 Rider 8 0 ≡ 5
+  pub begin_past : begun true Ready 2 Rider 8 0 ≡ 6
+  pub begin_record : begun true Ready 2 Rider 7 0 ≡ 20
+  pub begin_record_too : begun true Ready 2 Gym 7 0 ≡ 20
+  pub begin_barred : begun false Ready 2 Rider 7 0 ≡ 22
+  pub begin_size : begun false Ready 2 Gym 7 0 ≡ 7
+  pub begin_torn : begun false Ready 2 Gym 7 1 ≡ 8
+  pub begin_good : begun false Ready 1 Gym 7 1 ≡ 0
 
 -- ---- the ledger answers a begin alike
 abbrev pub EveryTold : Type 0

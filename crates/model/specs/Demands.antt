@@ -18,14 +18,14 @@ use Rattle.model.specs.declared.Phase.{Phase}
 use Rattle.model.specs.declared.Phase.TheVariants.{Cold, Ready, Writing, Recovering, Grouping}
 use Rattle.model.specs.declared.Inspection.{Inspection}
 use Rattle.model.specs.declared.Inspection.TheVariants.{Refused, Suspect, AllOk}
-use Rattle.model.specs.Layout.{Copy, copyA, copyB, Cell, marker, byte, width, copyLength, base, total, place}
-use Rattle.model.specs.Refusals.{readNumber, inspectNumber, totalNumber}
+use Rattle.model.specs.Layout.{Copy, copy_a, copy_b, Cell, marker, byte, width, copy_length, base, total, place}
+use Rattle.model.specs.Refusals.{read_number, inspect_number, total_number}
 use Rattle.model.specs.Calls.{Device, Answer, Outcome, outcome, view, Total}
 use Rattle.model.specs.Calls as calls
 use Rattle.model.specs.Groups.{Write}
 use Rattle.model.specs.Prices.{price}
 use Rattle.model.specs.Records.{IsLast, Gives, WriteOf}
-use Rattle.model.specs.Drive.{driveNumber, drive}
+use Rattle.model.specs.Drive.{drive_number, drive}
 
 -- ---- Where things lie. Ticket 9: "rounded up to whole pages": n bytes are so many pages, which hold w bytes, and one page less
 -- would not.
@@ -38,12 +38,12 @@ pub record Rounded (page w n : ℕ) : Type 0 where
 -- "Units lie one after another from image byte 0. A unit is its marker, copy A of w bytes, copy B of w bytes"; and "all units
 -- together". Ticket 9: "A marker takes a page of its own, in its first byte; each copy is rounded up to whole pages."
 pub record Lies (p : Plan) : Type 0 where
-  pub copies : 0 < p.page → (u : ℕ) → Rounded p.page (width p u) (copyLength p u)
+  pub copies : 0 < p.page → (u : ℕ) → Rounded p.page (width p u) (copy_length p u)
   pub first : base p 0 ≡ 0
-  pub next : (u : ℕ) → base p (suc u) ≡ base p u + (p.page + 2 * copyLength p u)
-  pub atMarker : (u : ℕ) → place p u marker ≡ base p u
-  pub atA : (u i : ℕ) → place p u (byte copyA i) ≡ base p u + (p.page + i)
-  pub at_b : (u i : ℕ) → place p u (byte copyB i) ≡ base p u + (p.page + copyLength p u + i)
+  pub next : (u : ℕ) → base p (suc u) ≡ base p u + (p.page + 2 * copy_length p u)
+  pub at_marker : (u : ℕ) → place p u marker ≡ base p u
+  pub at_a : (u i : ℕ) → place p u (byte copy_a i) ≡ base p u + (p.page + i)
+  pub at_b : (u i : ℕ) → place p u (byte copy_b i) ≡ base p u + (p.page + copy_length p u + i)
   pub all : total p ≡ base p p.count
 
 -- what stands in a cell of the image
@@ -59,7 +59,7 @@ granted rights Service u = get_or rights.service u 0
 
 pub data MaySee (rights : Rights) (role : Role) (u : ℕ) : Type 0 where
   sees : granted rights role u ≡ 1 → MaySee rights role u
-  writesToo : granted rights role u ≡ 2 → MaySee rights role u
+  writes_too : granted rights role u ≡ 2 → MaySee rights role u
 
 abbrev pub MayWrite : Rights → Role → ℕ → Type 0
 MayWrite rights role u = granted rights role u ≡ 2
@@ -114,13 +114,13 @@ pub record Begins (d : Device) (image : List ℕ) (u : ℕ) (payload : List ℕ)
   pub image' : o.image ≡ image
 
 -- Ticket 7: "lowest byte first": n bytes as a number
-unfoldable pub lowestFirst : ℕ → (ℕ → ℕ) → ℕ
-lowestFirst zero bytes = 0
-lowestFirst (suc n) bytes = bytes 0 + 256 * lowestFirst n (λ i. bytes (suc i))
+unfoldable pub lowest_first : ℕ → (ℕ → ℕ) → ℕ
+lowest_first zero bytes = 0
+lowest_first (suc n) bytes = bytes 0 + 256 * lowest_first n (λ i. bytes (suc i))
 
 -- what copy A of a unit holds
 abbrev pub held : Plan → List ℕ → ℕ → ℕ
-held p image u = lowestFirst (width p u) (λ i. at p image u (byte copyA i))
+held p image u = lowest_first (width p u) (λ i. at p image u (byte copy_a i))
 
 -- "begins a write of total plus turns", of unit 0; the total is "taken from copy A"
 pub record Rides (d : Device) (image : List ℕ) (turns : ℕ) (o : Outcome) : Type 0 where
@@ -128,7 +128,7 @@ pub record Rides (d : Device) (image : List ℕ) (turns : ℕ) (o : Outcome) : T
   pub begins : Begins d image 0 bytes o
   pub size : length bytes ≡ 8
   pub small : (i : ℕ) → i < 8 → get_or bytes i 0 < 256
-  pub sum : lowestFirst 8 (λ i. get_or bytes i 0) ≡ held d.plan image 0 + turns
+  pub sum : lowest_first 8 (λ i. get_or bytes i 0) ≡ held d.plan image 0 + turns
 
 -- Ticket 10: a group begins with the write of its record; "the payload being the record, zeros after it"
 pub record Groups (d : Device) (image : List ℕ) (g : List ℕ) (o : Outcome) : Type 0 where
@@ -146,38 +146,38 @@ pub record Pays (d : Device) (image : List ℕ) (turns : ℕ) (o : Outcome) : Ty
   pub groups : Groups d image (0 ∷ (total ++ (1 ∷ cents))) o
   pub sizes : (length total ≡ 8) × (length cents ≡ 8)
   pub small : (i : ℕ) → i < 8 → (get_or total i 0 < 256) × (get_or cents i 0 < 256)
-  pub turnsSum : lowestFirst 8 (λ i. get_or total i 0) ≡ held d.plan image 0 + turns
-  pub centsSum : lowestFirst 8 (λ i. get_or cents i 0) ≡ held d.plan image 1 + price turns
+  pub turns_sum : lowest_first 8 (λ i. get_or total i 0) ≡ held d.plan image 0 + turns
+  pub cents_sum : lowest_first 8 (λ i. get_or cents i 0) ≡ held d.plan image 1 + price turns
 
 -- ---- The store that comes next, by the number of stores made.
 -- "marker 2; A's bytes 0 to w-1 from the payload; marker 4; B's bytes 0 to w-1 from the payload; marker 1"
 pub data WriteStore (w : ℕ) (payload : List ℕ) (made : ℕ) : Cell → ℕ → Type 0 where
-  markerA : made ≡ 0 → WriteStore w payload made marker 2
-  toA : (i : ℕ) → i < w → made ≡ 1 + i → WriteStore w payload made (byte copyA i) (get_or payload i 0)
-  markerB : made ≡ w + 1 → WriteStore w payload made marker 4
-  toB : (i : ℕ) → i < w → made ≡ w + 2 + i → WriteStore w payload made (byte copyB i) (get_or payload i 0)
-  markerOK : made ≡ 2 * w + 2 → WriteStore w payload made marker 1
+  marker_a : made ≡ 0 → WriteStore w payload made marker 2
+  to_a : (i : ℕ) → i < w → made ≡ 1 + i → WriteStore w payload made (byte copy_a i) (get_or payload i 0)
+  marker_b : made ≡ w + 1 → WriteStore w payload made marker 4
+  to_b : (i : ℕ) → i < w → made ≡ w + 2 + i → WriteStore w payload made (byte copy_b i) (get_or payload i 0)
+  marker_ok : made ≡ 2 * w + 2 → WriteStore w payload made marker 1
 
 -- "Bytes 0 to w-1 go in order, each read from the good copy at that step; then marker 1."
 pub data CleanupStore (p : Plan) (image : List ℕ) (u made : ℕ) : Direction → Cell → ℕ → Type 0 where
-  toB : made < width p u → CleanupStore p image u made AToB (byte copyB made) (at p image u (byte copyA made))
-  toA : made < width p u → CleanupStore p image u made BToA (byte copyA made) (at p image u (byte copyB made))
-  markerOK : (d : Direction) → made ≡ width p u → CleanupStore p image u made d marker 1
+  to_b : made < width p u → CleanupStore p image u made AToB (byte copy_b made) (at p image u (byte copy_a made))
+  to_a : made < width p u → CleanupStore p image u made BToA (byte copy_a made) (at p image u (byte copy_b made))
+  marker_ok : (d : Direction) → made ≡ width p u → CleanupStore p image u made d marker 1
 
 -- Ticket 10: "Steps write the record, then each member in order, then a record of zeros."; "A group phase .. holds the write it is at and
 -- the stores made there"
 pub data NextStore (p : Plan) (payload image : List ℕ) : Phase → ℕ → Cell → ℕ → Type 0 where
-  ofWrite : (u made : ℕ) (c : Cell) (x : ℕ) → WriteStore (width p u) payload made c x
+  of_write : (u made : ℕ) (c : Cell) (x : ℕ) → WriteStore (width p u) payload made c x
       → NextStore p payload image (Writing u made) u c x
-  ofCleanup : (u made : ℕ) (d : Direction) (c : Cell) (x : ℕ) → CleanupStore p image u made d c x
+  of_cleanup : (u made : ℕ) (d : Direction) (c : Cell) (x : ℕ) → CleanupStore p image u made d c x
       → NextStore p payload image (Recovering u made d) u c x
-  ofGroup : (g bytes : List ℕ) (ms : List Write) (i made u : ℕ) (c : Cell) (x : ℕ) → Gives p payload g ms → WriteOf p payload ms i u bytes
+  of_group : (g bytes : List ℕ) (ms : List Write) (i made u : ℕ) (c : Cell) (x : ℕ) → Gives p payload g ms → WriteOf p payload ms i u bytes
       → WriteStore (width p u) bytes made c x → NextStore p payload image (Grouping i made) u c x
 
 -- ---- The cleanup that begins. "A copies B to A; B and X copy A to B."
 pub data Way (m : ℕ) : Direction → Type 0 where
-  fromB : m ≡ 2 → Way m BToA
-  fromA : ¬ (m ≡ 2) → Way m AToB
+  from_b : m ≡ 2 → Way m BToA
+  from_a : ¬ (m ≡ 2) → Way m AToB
 
 -- the markers of the units from `first` on are 1
 abbrev pub AllFrom : Plan → List ℕ → ℕ → Type 0
@@ -191,13 +191,13 @@ pub record Stands (p : Plan) (image payload : List ℕ) : Type 0 where
   pub gives : Gives p payload g ms
   pub r : ℕ
   pub is_last : IsLast p r
-  pub same : (i : ℕ) → i < width p r → get_or payload i 0 ≡ at p image r (byte copyA i)
+  pub same : (i : ℕ) → i < width p r → get_or payload i 0 ≡ at p image r (byte copy_a i)
 
 -- "the cleanup of the lowest unit whose marker isn't 1, or Ready", among the units from `first` on; "begins with 0 made". "a record that no
 -- group passing 19 to 21 gives is passed over". The device's payload is then `held`.
 pub data Cleans (p : Plan) (image payload : List ℕ) (first : ℕ) : Phase → List ℕ → Type 0 where
   none : AllFrom p image first → ((held : List ℕ) → ¬ Stands p image held) → Cleans p image payload first Ready payload
-  goesOn : (held : List ℕ) → AllFrom p image first → Stands p image held → Cleans p image payload first (Grouping 1 0) held
+  goes_on : (held : List ℕ) → AllFrom p image first → Stands p image held → Cleans p image payload first (Grouping 1 0) held
   lowest : (u : ℕ) (d : Direction) → first ≤ u → u < p.count
       → ¬ (at p image u marker ≡ 1)
       → ((v : ℕ) → first ≤ v → v < u → at p image v marker ≡ 1)
@@ -257,9 +257,9 @@ pub record Mixed (m old new left : ℕ) : Type 0 where
 -- Ticket 9: "one for each byte of the torn page: data and filler become the given byte, a torn marker keeps the bit rule": byte i of
 -- the page around the cell that was to be stored
 pub data Torn (bytes : List ℕ) (old new : ℕ) : Cell → ℕ → ℕ → Type 0 where
-  ofData : (c : Copy) (j i : ℕ) → Torn bytes old new (byte c j) i (get_or bytes i 0)
-  ofMarker : (left : ℕ) → Mixed (get_or bytes 0 0) old new left → Torn bytes old new marker 0 left
-  byMarker : (i : ℕ) → Torn bytes old new marker (suc i) (get_or bytes (suc i) 0)
+  of_data : (c : Copy) (j i : ℕ) → Torn bytes old new (byte c j) i (get_or bytes i 0)
+  of_marker : (left : ℕ) → Mixed (get_or bytes 0 0) old new left → Torn bytes old new marker 0 left
+  by_marker : (i : ℕ) → Torn bytes old new marker (suc i) (get_or bytes (suc i) 0)
 
 -- "in Writing or Recovering it tears the next store"; Ticket 10: "A group phase, torn by cut as Writing is"; "the page around the byte it
 -- is storing": the page number n of the image. "No other byte is touched."
@@ -296,26 +296,26 @@ pub record Cuts (d : Device) (image : List ℕ) (bytes : List ℕ) (o : Outcome)
 -- ---- Looking: neither hands an image back, so neither changes a byte.
 -- "the part of the lent image that is copy A"; "an empty part when refused"
 pub record Reads (d : Device) (image : List ℕ) (role : Role) (u : ℕ) (part : List ℕ) : Type 0 where
-  pub refused : ¬ (readNumber (view d image) role u ≡ 0) → part ≡ []
-  pub size : readNumber (view d image) role u ≡ 0 → length part ≡ width d.plan u
-  pub bytes : readNumber (view d image) role u ≡ 0
-      → (i : ℕ) → i < width d.plan u → get_or part i 0 ≡ at d.plan image u (byte copyA i)
+  pub refused : ¬ (read_number (view d image) role u ≡ 0) → part ≡ []
+  pub size : read_number (view d image) role u ≡ 0 → length part ≡ width d.plan u
+  pub bytes : read_number (view d image) role u ≡ 0
+      → (i : ℕ) → i < width d.plan u → get_or part i 0 ≡ at d.plan image u (byte copy_a i)
 
 -- a unit's total as a number, 0 when refused
 pub record Totals (d : Device) (image : List ℕ) (role : Role) (u : ℕ) (t : Total) : Type 0 where
-  pub number : t.number ≡ totalNumber (view d image) role u
+  pub number : t.number ≡ total_number (view d image) role u
   pub refused : ¬ (t.number ≡ 0) → t.amount ≡ 0
   pub accepted : t.number ≡ 0 → t.amount ≡ held d.plan image u
 
 -- Ticket 3: "Inspect now names the lowest unit whose marker isn't 1"; document 01: "none exactly if all are 1. .. It works in
 -- every phase; refused, it gives the number and names no unit."
 abbrev pub Inspects : Device → List ℕ → Inspection → Type 0
-Inspects d image (Refused n) = (n ≡ inspectNumber (view d image)) × ¬ (n ≡ 0)
+Inspects d image (Refused n) = (n ≡ inspect_number (view d image)) × ¬ (n ≡ 0)
 Inspects d image (Suspect u) =
-    (inspectNumber (view d image) ≡ 0) × (u < d.plan.count) × ¬ (at d.plan image u marker ≡ 1)
+    (inspect_number (view d image) ≡ 0) × (u < d.plan.count) × ¬ (at d.plan image u marker ≡ 1)
     × ((v : ℕ) → v < u → at d.plan image v marker ≡ 1)
 Inspects d image AllOk =
-    (inspectNumber (view d image) ≡ 0) × ((v : ℕ) → v < d.plan.count → at d.plan image v marker ≡ 1)
+    (inspect_number (view d image) ≡ 0) × ((v : ℕ) → v < d.plan.count → at d.plan image v marker ≡ 1)
 
 -- ---- The demands, of every device, image and argument.
 pub record Demands (d : Device) (image : List ℕ) : Type 0 where
@@ -325,7 +325,7 @@ pub record Demands (d : Device) (image : List ℕ) : Type 0 where
   pub begin : (role : Role) (u : ℕ) (payload : List ℕ) → Does (Begins d image u payload) d image (calls.begin d image role u payload)
   pub ride : (turns : ℕ) → Does (Rides d image turns) d image (calls.ride d image turns)
   pub group : (g : List ℕ) → Does (Groups d image g) d image (calls.group d image g)
-  pub paid : (turns : ℕ) → Does (Pays d image turns) d image (calls.paidRide d image turns)
+  pub paid : (turns : ℕ) → Does (Pays d image turns) d image (calls.paid_ride d image turns)
   pub step : Does (Steps d image) d image (calls.step d image)
   pub wake : Does (Wakes d image) d image (calls.wake d image)
   pub cut : (bytes : List ℕ) → Does (Cuts d image bytes) d image (calls.cut d image bytes)
@@ -340,18 +340,18 @@ EveryCall = (d : Device) (image : List ℕ) → Demands d image
 -- between, with no division.
 pub record Drives (l r : ℕ) : Type 0 where
   pub bin : ℕ
-  pub bin-least : 4 * bin ≤ r
-  pub bin-most : r < 4 * bin + 4
+  pub bin_least : 4 * bin ≤ r
+  pub bin_most : r < 4 * bin + 4
   pub half : ℕ
-  pub half-least : 2 * half ≤ l * bin
-  pub half-most : l * bin < 2 * half + 2
-  pub number : driveNumber l r ≡ 0
+  pub half_least : 2 * half ≤ l * bin
+  pub half_most : l * bin < 2 * half + 2
+  pub number : drive_number l r ≡ 0
   pub is : drive l r ≡ 100 + 160 * l + half
 
 -- "9 level 0 or above 20; 10 rate above 255"; "Refused: drive 0."
 pub record EveryDrive : Type 0 where
   pub accepted : (l r : ℕ) → 1 ≤ l → l ≤ 20 → r ≤ 255 → Drives l r
-  pub no-level : (r : ℕ) → driveNumber 0 r ≡ 9
-  pub high-level : (l r : ℕ) → 20 < l → driveNumber l r ≡ 9
-  pub high-rate : (l r : ℕ) → 1 ≤ l → l ≤ 20 → 255 < r → driveNumber l r ≡ 10
-  pub refused : (l r : ℕ) → ¬ (driveNumber l r ≡ 0) → drive l r ≡ 0
+  pub no_level : (r : ℕ) → drive_number 0 r ≡ 9
+  pub high_level : (l r : ℕ) → 20 < l → drive_number l r ≡ 9
+  pub high_rate : (l r : ℕ) → 1 ≤ l → l ≤ 20 → 255 < r → drive_number l r ≡ 10
+  pub refused : (l r : ℕ) → ¬ (drive_number l r ≡ 0) → drive l r ≡ 0

@@ -9,15 +9,15 @@ use Rattle.model.specs.declared.Phase.{Phase}
 use Rattle.model.specs.declared.Phase.TheVariants.{Cold, Ready, Writing, Recovering}
 use Rattle.model.specs.declared.Plan.{Plan}
 use Rattle.model.specs.declared.Role.TheVariants.{Service}
-use Rattle.model.specs.Rights.{noRights}
-use Rattle.model.specs.Refusals.{Job, cold, ready, writing, recovering, readNumber, inspectNumber}
-use Rattle.model.specs.Calls.{Device, Answer, Outcome, outcome, view, zeroPayload}
+use Rattle.model.specs.Rights.{no_rights}
+use Rattle.model.specs.Refusals.{Job, cold, ready, writing, recovering, read_number, inspect_number}
+use Rattle.model.specs.Calls.{Device, Answer, Outcome, outcome, view, zero_payload}
 use Rattle.model.specs.Calls as calls
 use Rattle.model.specs.Ledger.{Call, begin, step, wake, Ledger, opening, tells, after}
 use Rattle.model.specs.PowerCut.{call, run}
-use Rattle.model.specs.Wear.{completedIn, tornIn, ceiling}
-use Rattle.model.specs.Cases.{planned, cutOne}
-use Rattle.model.specs.Drive.{driveNumber, drive}
+use Rattle.model.specs.Wear.{completed_in, torn_in, ceiling}
+use Rattle.model.specs.Cases.{planned, cut_one}
+use Rattle.model.specs.Drive.{drive_number, drive}
 
 -- ---- Refusals. A row has a situation, in which whatever a later row mends is still wrong, and the number of each call there.
 pub record Numbers : Type 0 where
@@ -37,16 +37,16 @@ pub record Situation : Type 0 where
   pub unit : ℕ
   pub payload : List ℕ
 
-abbrev pub numbersIn : Situation → Numbers
-numbersIn s =
+abbrev pub numbers_in : Situation → Numbers
+numbers_in s =
     record {
       start = (calls.start s.device.plan).number;
       format = (calls.format s.device s.image).number;
       wake = (calls.wake s.device s.image).number;
       step = (calls.step s.device s.image).number;
       cut = (calls.cut s.device s.image (0 ∷ [])).number;
-      inspect = inspectNumber (view s.device s.image);
-      read = readNumber (view s.device s.image) Service s.unit;
+      inspect = inspect_number (view s.device s.image);
+      read = read_number (view s.device s.image) Service s.unit;
       begin = (calls.begin s.device s.image Service s.unit s.payload).number;
     }
 
@@ -56,7 +56,7 @@ at k w phase image u payload =
     record {
       device = record {
         plan = planned k (2 ∷ w ∷ 1 ∷ replicate 5 0);
-        payload = zeroPayload;
+        payload = zero_payload;
         phase = phase;
         stores = 7;
       };
@@ -136,7 +136,7 @@ refusals =
     ∷ []
 
 abbrev pub EveryRefusal : Type 0
-EveryRefusal = map (λ (r : Row). numbersIn r.situation) refusals ≡ map (λ (r : Row). r.expected) refusals
+EveryRefusal = map (λ (r : Row). numbers_in r.situation) refusals ≡ map (λ (r : Row). r.expected) refusals
 
 -- ---- Whole outcomes: number, device, every byte. The plan has the widths 2 and 1, the payload is 5 6 and zeros.
 abbrev pub plan21 : Plan
@@ -199,7 +199,7 @@ traced n o expected = pair (trace n o) (from 1 expected)
 abbrev pub outcomes : List Pair
 outcomes =
     -- format: whatever stood there
-    one (calls.format (device Cold held) (replicate 8 7 ++ (9 ∷ []))) (gives Ready zeroPayload fresh0 fresh1)
+    one (calls.format (device Cold held) (replicate 8 7 ++ (9 ∷ []))) (gives Ready zero_payload fresh0 fresh1)
     -- begin: zeros after the payload, no store
     ∷ one (calls.begin (device Ready held) (units fresh0 fresh1) Service 1 (3 ∷ [])) (gives (Writing 1 0) (3 ∷ replicate 255 0) fresh0 fresh1)
     -- the seven stores of a write of width 2; the payload stays
@@ -213,15 +213,15 @@ outcomes =
     ∷ gives Ready held (1 ∷ 5 ∷ 6 ∷ 5 ∷ 6 ∷ []) fresh1
     ∷ [])
     -- a cut: a torn marker bit by bit, a torn data byte as given; then Cold with a zero payload
-    ∷ one (call (cutOne 253) (wrote 0 (0 ∷ 1 ∷ 2 ∷ 3 ∷ 4 ∷ []))) (gives Cold zeroPayload (0 ∷ 1 ∷ 2 ∷ 3 ∷ 4 ∷ []) fresh1)
-    ∷ one (call (cutOne 2) (wrote 0 (193 ∷ 1 ∷ 2 ∷ 3 ∷ 4 ∷ []))) (gives Cold zeroPayload (195 ∷ 1 ∷ 2 ∷ 3 ∷ 4 ∷ []) fresh1)
-    ∷ one (call (cutOne 77) (wrote 2 (2 ∷ 1 ∷ 2 ∷ 3 ∷ 4 ∷ []))) (gives Cold zeroPayload (2 ∷ 1 ∷ 77 ∷ 3 ∷ 4 ∷ []) fresh1)
-    ∷ one (call (cutOne 77) (wrote 4 (4 ∷ 1 ∷ 2 ∷ 3 ∷ 4 ∷ []))) (gives Cold zeroPayload (4 ∷ 1 ∷ 2 ∷ 77 ∷ 4 ∷ []) fresh1)
-    ∷ one (call (cutOne 77) (cleaning (Recovering 0 1 BToA) (2 ∷ 1 ∷ 2 ∷ 3 ∷ 4 ∷ []) fresh1))
-    (gives Cold zeroPayload (2 ∷ 1 ∷ 77 ∷ 3 ∷ 4 ∷ []) fresh1)
+    ∷ one (call (cut_one 253) (wrote 0 (0 ∷ 1 ∷ 2 ∷ 3 ∷ 4 ∷ []))) (gives Cold zero_payload (0 ∷ 1 ∷ 2 ∷ 3 ∷ 4 ∷ []) fresh1)
+    ∷ one (call (cut_one 2) (wrote 0 (193 ∷ 1 ∷ 2 ∷ 3 ∷ 4 ∷ []))) (gives Cold zero_payload (195 ∷ 1 ∷ 2 ∷ 3 ∷ 4 ∷ []) fresh1)
+    ∷ one (call (cut_one 77) (wrote 2 (2 ∷ 1 ∷ 2 ∷ 3 ∷ 4 ∷ []))) (gives Cold zero_payload (2 ∷ 1 ∷ 77 ∷ 3 ∷ 4 ∷ []) fresh1)
+    ∷ one (call (cut_one 77) (wrote 4 (4 ∷ 1 ∷ 2 ∷ 3 ∷ 4 ∷ []))) (gives Cold zero_payload (4 ∷ 1 ∷ 2 ∷ 77 ∷ 4 ∷ []) fresh1)
+    ∷ one (call (cut_one 77) (cleaning (Recovering 0 1 BToA) (2 ∷ 1 ∷ 2 ∷ 3 ∷ 4 ∷ []) fresh1))
+    (gives Cold zero_payload (2 ∷ 1 ∷ 77 ∷ 3 ∷ 4 ∷ []) fresh1)
     -- .. in Cold and Ready it stores nothing
-    ∷ one (call (cutOne 77) (gives Ready held fresh0 fresh1)) (gives Cold zeroPayload fresh0 fresh1)
-    ∷ one (call (cutOne 77) (gives Cold held fresh0 fresh1)) (gives Cold zeroPayload fresh0 fresh1)
+    ∷ one (call (cut_one 77) (gives Ready held fresh0 fresh1)) (gives Cold zero_payload fresh0 fresh1)
+    ∷ one (call (cut_one 77) (gives Cold held fresh0 fresh1)) (gives Cold zero_payload fresh0 fresh1)
     -- two bad units, the lower one first: X copies A to B, A copies B to A
     ∷ one (call wake (gives Cold held (7 ∷ 1 ∷ 2 ∷ 3 ∷ 4 ∷ []) (2 ∷ 5 ∷ 6 ∷ [])))
     (cleaning (Recovering 0 0 AToB) (7 ∷ 1 ∷ 2 ∷ 3 ∷ 4 ∷ []) (2 ∷ 5 ∷ 6 ∷ []))
@@ -264,7 +264,7 @@ start k widths = calls.start (planned k widths)
 
 -- no unit, no width and no right
 abbrev none : Plan
-none = record { count = 0; widths = replicate 8 0; page = 1; grouped = false; rights = noRights }
+none = record { count = 0; widths = replicate 8 0; page = 1; grouped = false; rights = no_rights }
 
 abbrev pub EveryStart : Type 0
 EveryStart =
@@ -315,18 +315,18 @@ entries =
     ∷ notes (wake ∷ begin Service 1 [] ∷ step ∷ []) (entry ready (replicate 256 0) 0 1 (0 ∷ []))
     ∷ notes (write3 ∷ []) (entry (writing 1 0) (3 ∷ []) 0 1 (0 ∷ []))
     -- a torn store counts
-    ∷ notes (write3 ∷ cutOne 0 ∷ []) (entry cold (3 ∷ []) 1 1 (0 ∷ []))
-    ∷ notes (write3 ∷ cutOne 255 ∷ []) (entry cold (3 ∷ []) 1 2 (0 ∷ []))
+    ∷ notes (write3 ∷ cut_one 0 ∷ []) (entry cold (3 ∷ []) 1 1 (0 ∷ []))
+    ∷ notes (write3 ∷ cut_one 255 ∷ []) (entry cold (3 ∷ []) 1 2 (0 ∷ []))
     -- store w + 2 torn, leaving 2 and leaving 6
-    ∷ notes (write3 ∷ step ∷ step ∷ cutOne 0 ∷ []) (entry cold (3 ∷ []) 1 2 (0 ∷ []))
-    ∷ notes (write3 ∷ step ∷ step ∷ cutOne 4 ∷ []) (entry cold (3 ∷ []) 1 6 (3 ∷ []))
+    ∷ notes (write3 ∷ step ∷ step ∷ cut_one 0 ∷ []) (entry cold (3 ∷ []) 1 2 (0 ∷ []))
+    ∷ notes (write3 ∷ step ∷ step ∷ cut_one 4 ∷ []) (entry cold (3 ∷ []) 1 6 (3 ∷ []))
     ∷ notes (write3 ∷ step ∷ step ∷ step ∷ []) (entry (writing 1 3) (3 ∷ []) 1 4 (3 ∷ []))
     ∷ notes (write3 ∷ step ∷ step ∷ step ∷ step ∷ step ∷ []) (entry ready (3 ∷ []) 1 1 (3 ∷ []))
-    ∷ notes (write3 ∷ step ∷ cutOne 0 ∷ wake ∷ []) (entry (recovering 1 0) (3 ∷ []) 1 2 (0 ∷ []))
-    ∷ notes (write3 ∷ step ∷ cutOne 0 ∷ wake ∷ step ∷ step ∷ []) (entry ready (3 ∷ []) 1 1 (0 ∷ []))
+    ∷ notes (write3 ∷ step ∷ cut_one 0 ∷ wake ∷ []) (entry (recovering 1 0) (3 ∷ []) 1 2 (0 ∷ []))
+    ∷ notes (write3 ∷ step ∷ cut_one 0 ∷ wake ∷ step ∷ step ∷ []) (entry ready (3 ∷ []) 1 1 (0 ∷ []))
     -- Ticket 4: 7, the highest marker that a list leaves, is no foreign one
-    ∷ notes (write3 ∷ step ∷ step ∷ cutOne 4 ∷ wake ∷ step ∷ cutOne 1 ∷ []) (entry cold (3 ∷ []) 1 7 (3 ∷ []))
-    ∷ notes (write3 ∷ step ∷ step ∷ cutOne 4 ∷ wake ∷ step ∷ cutOne 1 ∷ wake ∷ []) (entry (recovering 1 0) (3 ∷ []) 1 7 (3 ∷ []))
+    ∷ notes (write3 ∷ step ∷ step ∷ cut_one 4 ∷ wake ∷ step ∷ cut_one 1 ∷ []) (entry cold (3 ∷ []) 1 7 (3 ∷ []))
+    ∷ notes (write3 ∷ step ∷ step ∷ cut_one 4 ∷ wake ∷ step ∷ cut_one 1 ∷ wake ∷ []) (entry (recovering 1 0) (3 ∷ []) 1 7 (3 ∷ []))
     ∷ []
 
 abbrev pub EveryEntry : Type 0
@@ -334,11 +334,11 @@ EveryEntry = map (λ (n : Noted). noted n.calls) entries ≡ map (λ (n : Noted)
 
 -- ---- Ticket 4: "refusals that tickets add count there and in the ledger as 01's". No list leaves a ledger with this marker:
 -- its wake is refused with 14 and leaves it Cold.
-abbrev foreignEntry : Ledger
-foreignEntry = record { job = cold; payload = zeroPayload; unit = 1; marker = 8; written = λ u. []; saved = λ u. [] }
+abbrev foreign_entry : Ledger
+foreign_entry = record { job = cold; payload = zero_payload; unit = 1; marker = 8; written = λ u. []; saved = λ u. [] }
 
 abbrev pub ForeignTold : Type 0
-ForeignTold = tells plan21 foreignEntry (wake ∷ write3 ∷ []) ≡ 14 ∷ 5 ∷ []
+ForeignTold = tells plan21 foreign_entry (wake ∷ write3 ∷ []) ≡ 14 ∷ 5 ∷ []
 
 -- ---- What inspect says: none bad, one or the other, both, a marker of no meaning, and an image that is a byte short.
 abbrev bad0 : List ℕ
@@ -362,12 +362,12 @@ inspections =
     ∷ []
 
 -- in every phase
-abbrev answersIn : Phase → List Inspection
-answersIn phase = map (λ (q : Seen). calls.inspect (device phase held) q.image) inspections
+abbrev answers_in : Phase → List Inspection
+answers_in phase = map (λ (q : Seen). calls.inspect (device phase held) q.image) inspections
 
 abbrev pub EveryInspection : Type 0
 EveryInspection =
-    map answersIn (Cold ∷ Ready ∷ Writing 0 6 ∷ Recovering 1 1 BToA ∷ [])
+    map answers_in (Cold ∷ Ready ∷ Writing 0 6 ∷ Recovering 1 1 BToA ∷ [])
     ≡ replicate 4 (map (λ (q : Seen). q.answer) inspections)
 
 -- ---- The stores counted after each call of a device that has counted n.
@@ -426,7 +426,7 @@ plan219 = planned 2 (2 ∷ 1 ∷ 9 ∷ replicate 5 0)
 abbrev worn : List Call → Wearing
 worn cs =
     wearing cs (run cs (calls.format (calls.start plan219).device (replicate 8 7))).device.stores
-    (completedIn plan219 cs) (tornIn plan219 cs) (ceiling plan219 cs)
+    (completed_in plan219 cs) (torn_in plan219 cs) (ceiling plan219 cs)
 
 abbrev save0 : ℕ → List Call → List Call
 save0 n more = begin Service 0 (3 ∷ 4 ∷ []) ∷ replicate n step ++ more
@@ -438,12 +438,12 @@ wearings =
     ∷ wearing (begin Service 1 (3 ∷ []) ∷ replicate 5 step) 5 5 0 5
     -- a save that is cut at its last store, and its repair; and one whose repair is cut at its last store as well. With the torn
     -- stores counted in, they meet the ceiling.
-    ∷ wearing (save0 6 (cutOne 0 ∷ wake ∷ step ∷ step ∷ step ∷ [])) 9 9 1 10
-    ∷ wearing (save0 6 (cutOne 0 ∷ wake ∷ step ∷ step ∷ cutOne 0 ∷ wake ∷ step ∷ step ∷ step ∷ [])) 11 11 2 13
+    ∷ wearing (save0 6 (cut_one 0 ∷ wake ∷ step ∷ step ∷ step ∷ [])) 9 9 1 10
+    ∷ wearing (save0 6 (cut_one 0 ∷ wake ∷ step ∷ step ∷ cut_one 0 ∷ wake ∷ step ∷ step ∷ step ∷ [])) 11 11 2 13
     -- a cut of a unit that isn't the widest
-    ∷ wearing (begin Service 1 (3 ∷ []) ∷ step ∷ step ∷ step ∷ step ∷ cutOne 0 ∷ wake ∷ step ∷ step ∷ []) 6 6 1 8
+    ∷ wearing (begin Service 1 (3 ∷ []) ∷ step ∷ step ∷ step ∷ step ∷ cut_one 0 ∷ wake ∷ step ∷ step ∷ []) 6 6 1 8
     -- cuts that tear nothing, and calls that are refused
-    ∷ wearing (cutOne 0 ∷ cutOne 0 ∷ wake ∷ []) 0 0 0 6
+    ∷ wearing (cut_one 0 ∷ cut_one 0 ∷ wake ∷ []) 0 0 0 6
     ∷ wearing (begin Service 2 [] ∷ begin Service 0 [] ∷ step ∷ wake ∷ []) 0 0 0 0
     ∷ []
 
@@ -478,5 +478,5 @@ drivings =
 
 abbrev pub EveryDriving : Type 0
 EveryDriving =
-    map (λ (q : Driven). driven q.level q.rate (driveNumber q.level q.rate) (drive q.level q.rate)) drivings
+    map (λ (q : Driven). driven q.level q.rate (drive_number q.level q.rate) (drive q.level q.rate)) drivings
     ≡ drivings

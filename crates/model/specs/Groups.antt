@@ -7,8 +7,8 @@ use Rattle.model.specs.Plans.{width}
 abbrev pub last : Plan → ℕ
 last p = p.count - 1
 
-abbrev pub isRecord : Plan → ℕ → Bool
-isRecord p u = p.grouped && eqb u (last p)
+abbrev pub is_record : Plan → ℕ → Bool
+is_record p u = p.grouped && eqb u (last p)
 
 -- a payload as the device holds it: 256 bytes, "zeros after it"
 abbrev pub padded : List ℕ → List ℕ
@@ -42,16 +42,16 @@ splits p (suc n) (u ∷ bytes) =
     (ltb u p.count && leb (width p u) (length bytes)) && splits p n (drop (width p u) bytes)
 
 -- the member count, 0 if they don't split: the widths leave no choice
-unfoldable pub memberCount : Plan → List ℕ → ℕ
-memberCount p g = cond (splits p 2 g) 2 (cond (splits p 3 g) 3 (cond (splits p 4 g) 4 0))
+unfoldable pub member_count : Plan → List ℕ → ℕ
+member_count p g = cond (splits p 2 g) 2 (cond (splits p 3 g) 3 (cond (splits p 4 g) 4 0))
 
 unfoldable pub members : Plan → List ℕ → List Write
-members p g = split p (memberCount p g) g
+members p g = split p (member_count p g) g
 
 -- ---- 19 to 21
 -- "19 for bytes that don't split into 2 to 4 members with units below k"
 unfoldable pub unsplit : Plan → List ℕ → Bool
-unsplit p g = eqb (memberCount p g) 0
+unsplit p g = eqb (member_count p g) 0
 
 -- "20 for a unit twice or the record itself"
 unfoldable pub among : ℕ → List Write → Bool
@@ -73,12 +73,12 @@ unfoldable pub fits : Plan → List ℕ → Bool
 fits p g = not (unsplit p g) && (not (overlaps p g) && not (narrow p g))
 
 -- ---- "The record is the member count, the members, then zeros."; "the payload being the record, zeros after it"
-unfoldable pub payloadOf : Plan → List ℕ → List ℕ
-payloadOf p g = padded (memberCount p g ∷ g)
+unfoldable pub payload_of : Plan → List ℕ → List ℕ
+payload_of p g = padded (member_count p g ∷ g)
 
 -- the group that a payload is of, if it is of one
-unfoldable pub groupIn : Plan → List ℕ → List ℕ
-groupIn p payload = joined (split p (get_or payload 0 0) (drop 1 payload))
+unfoldable pub group_in : Plan → List ℕ → List ℕ
+group_in p payload = joined (split p (get_or payload 0 0) (drop 1 payload))
 
 unfoldable pub alike : List ℕ → List ℕ → Bool
 alike [] [] = true
@@ -88,7 +88,7 @@ alike (x ∷ xs) (y ∷ ys) = eqb x y && alike xs ys
 
 -- a payload that a "group passing 19 to 21 gives"
 unfoldable pub given : Plan → List ℕ → Bool
-given p payload = fits p (groupIn p payload) && alike (payloadOf p (groupIn p payload)) payload
+given p payload = fits p (group_in p payload) && alike (payload_of p (group_in p payload)) payload
 
 -- the bytes of the record unit are a standing record; "a record that no group passing 19 to 21 gives is passed over"
 unfoldable pub stands : Plan → List ℕ → Bool
@@ -109,8 +109,8 @@ nth (x ∷ xs) zero = x
 nth (x ∷ xs) (suc i) = nth xs i
 
 -- "A group phase .. holds the write it is at": 0 the record, then the members, then the zeros
-unfoldable pub writeAt : Plan → List ℕ → ℕ → Write
-writeAt p payload i = nth (writes p payload) i
+unfoldable pub write_at : Plan → List ℕ → ℕ → Write
+write_at p payload i = nth (writes p payload) i
 
-unfoldable pub isLastWrite : Plan → List ℕ → ℕ → Bool
-isLastWrite p payload i = leb (length (writes p payload)) (suc i)
+unfoldable pub is_last_write : Plan → List ℕ → ℕ → Bool
+is_last_write p payload i = leb (length (writes p payload)) (suc i)

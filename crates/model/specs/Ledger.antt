@@ -3,12 +3,12 @@
 use Rattle.std.specs.Prelude.{ℕ, zero, suc, ◌+◌, ◌*◌, List, [], ◌∷◌, Bool, false, cond, not, ◌&&◌, eqb, length, replicate}
 use Rattle.model.specs.declared.Plan.{Plan}
 use Rattle.model.specs.declared.Role.{Role}
-use Rattle.model.specs.Marker.{OK, A, B, End, completed, tornBy, markerLeft}
+use Rattle.model.specs.Marker.{OK, A, B, End, completed, torn_by, marker_left}
 use Rattle.model.specs.Plans.{width}
-use Rattle.model.specs.Groups.{Write, write, last, padded, payloadOf, stands, remaining, writeAt, isLastWrite}
-use Rattle.model.specs.Refusals.{Job, cold, ready, writing, recovering, grouping, View, beginNumber, rideNumber, groupNumber, paidNumber, stepNumber, cutNumber, wakeNumber}
+use Rattle.model.specs.Groups.{Write, write, last, padded, payload_of, stands, remaining, write_at, is_last_write}
+use Rattle.model.specs.Refusals.{Job, cold, ready, writing, recovering, grouping, View, begin_number, ride_number, group_number, paid_number, step_number, cut_number, wake_number}
 use Rattle.model.specs.Turns.{plus}
-use Rattle.model.specs.Prices.{paidGroup}
+use Rattle.model.specs.Prices.{paid_group}
 
 -- the calls of demand 3's lists, with their arguments
 pub data Call : Type 0 where
@@ -45,59 +45,59 @@ opening p =
     }
 
 -- "Every other unit's marker counts as 1."
-unfoldable pub markerOf : Ledger → ℕ → ℕ
-markerOf l u = cond (eqb u l.unit) l.marker OK
+unfoldable pub marker_of : Ledger → ℕ → ℕ
+marker_of l u = cond (eqb u l.unit) l.marker OK
 
 -- "A call that 'Refusals' refuses, judged by what the ledger is fed and keeps": it is fed no image, so none is too short.
 abbrev pub judged : Plan → Ledger → View
-judged p l = record { plan = p; short = false; payload = l.payload; job = l.job; marker = markerOf l }
+judged p l = record { plan = p; short = false; payload = l.payload; job = l.job; marker = marker_of l }
 
 -- "In the list each call answers that refusal's number, otherwise 0."
 unfoldable pub told : Plan → Ledger → Call → ℕ
-told p l (begin role u payload) = beginNumber (judged p l) role u (length payload)
-told p l (ride turns) = rideNumber (judged p l) (l.written 0) turns
-told p l (group g) = groupNumber (judged p l) g
-told p l (paid turns) = paidNumber (judged p l) (l.written 0) (l.written 1) turns
-told p l step = stepNumber (judged p l)
-told p l (cut bytes) = cutNumber (judged p l) (length bytes)
-told p l wake = wakeNumber (judged p l)
+told p l (begin role u payload) = begin_number (judged p l) role u (length payload)
+told p l (ride turns) = ride_number (judged p l) (l.written 0) turns
+told p l (group g) = group_number (judged p l) g
+told p l (paid turns) = paid_number (judged p l) (l.written 0) (l.written 1) turns
+told p l step = step_number (judged p l)
+told p l (cut bytes) = cut_number (judged p l) (length bytes)
+told p l wake = wake_number (judged p l)
 
 -- "Writing: marker 2 after store 1, 4 after store w + 2, 1 .. after store 2w + 3": the marker after store n of a write, which
 -- was old before it. "if the next store is the marker's, the marker becomes the torn byte"
-unfoldable pub writeMarker : ℕ → ℕ → End → ℕ → ℕ
-writeMarker w n e old =
+unfoldable pub write_marker : ℕ → ℕ → End → ℕ → ℕ
+write_marker w n e old =
     cond (eqb n 1)
-    (markerLeft e old A)
-    (cond (eqb n (w + 2)) (markerLeft e old B) (cond (eqb n (2 * w + 3)) (markerLeft e old OK) old))
+    (marker_left e old A)
+    (cond (eqb n (w + 2)) (marker_left e old B) (cond (eqb n (2 * w + 3)) (marker_left e old OK) old))
 
 -- "Recovering: marker 1 .. after store w + 1."
-unfoldable pub cleanupMarker : ℕ → ℕ → End → ℕ → ℕ
-cleanupMarker w n e old = cond (eqb n (w + 1)) (markerLeft e old OK) old
+unfoldable pub cleanup_marker : ℕ → ℕ → End → ℕ → ℕ
+cleanup_marker w n e old = cond (eqb n (w + 1)) (marker_left e old OK) old
 
 -- "A write passes when its store w + 2 is completed or is torn leaving a byte other than 2." The term is the document's own.
 abbrev pub passes : ℕ → ℕ → End → ℕ → Bool
 passes w n completed left = eqb n (w + 2)
-passes w n (tornBy bytes) left = eqb n (w + 2) && not (eqb left A)
+passes w n (torn_by bytes) left = eqb n (w + 2) && not (eqb left A)
 
 -- "makes its payload the unit's saved bytes at that store"
 unfoldable pub saving : ℕ → List ℕ → (ℕ → List ℕ) → ℕ → List ℕ
 saving u payload saved v = cond (eqb v u) payload (saved v)
 
 -- the same of some writes, one after the other
-unfoldable pub savingAll : List Write → (ℕ → List ℕ) → ℕ → List ℕ
-savingAll [] saved = saved
-savingAll (x ∷ xs) saved = savingAll xs (saving x.unit x.bytes saved)
+unfoldable pub saving_all : List Write → (ℕ → List ℕ) → ℕ → List ℕ
+saving_all [] saved = saved
+saving_all (x ∷ xs) saved = saving_all xs (saving x.unit x.bytes saved)
 
 -- Ticket 10: the writes that count as passed when write i of a group passes: with the record's first all that remain, and none with
 -- those, "at whichever store or rewrite the power fails"
-unfoldable pub countWith : Plan → List ℕ → ℕ → List Write
-countWith p payload zero = remaining p payload
-countWith p payload (suc i) = []
+unfoldable pub count_with : Plan → List ℕ → ℕ → List Write
+count_with p payload zero = remaining p payload
+count_with p payload (suc i) = []
 
 -- whether the write x passes at its store n
-abbrev pub passesAt : Plan → Ledger → Write → ℕ → End → Bool
-passesAt p l x n e =
-    passes (width p x.unit) n e (writeMarker (width p x.unit) n e (markerOf l x.unit))
+abbrev pub passes_at : Plan → Ledger → Write → ℕ → End → Bool
+passes_at p l x n e =
+    passes (width p x.unit) n e (write_marker (width p x.unit) n e (marker_of l x.unit))
 
 -- store n of the write x comes to an end, and the job is then j; if x passes, xs count as passed
 abbrev pub wrote : Plan → Ledger → Write → List Write → ℕ → End → Job → Ledger
@@ -106,9 +106,9 @@ wrote p l x xs n e j =
       job = j;
       payload = l.payload;
       unit = x.unit;
-      marker = writeMarker (width p x.unit) n e (markerOf l x.unit);
-      written = cond (passesAt p l x n e) (saving x.unit x.bytes l.written) l.written;
-      saved = cond (passesAt p l x n e) (savingAll xs l.saved) l.saved;
+      marker = write_marker (width p x.unit) n e (marker_of l x.unit);
+      written = cond (passes_at p l x n e) (saving x.unit x.bytes l.written) l.written;
+      saved = cond (passes_at p l x n e) (saving_all xs l.saved) l.saved;
     }
 
 -- the same of a cleanup
@@ -118,7 +118,7 @@ cleaned p l u n e j payload =
       job = j;
       payload = payload;
       unit = u;
-      marker = cleanupMarker (width p u) n e (markerOf l u);
+      marker = cleanup_marker (width p u) n e (marker_of l u);
       written = l.written;
       saved = l.saved;
     }
@@ -151,42 +151,42 @@ stepped p l (recovering u made) =
     (cond (eqb (suc made) (width p u + 1)) (resumed p l) (recovering u (suc made)))
     (cond (eqb (suc made) (width p u + 1)) (reloaded p l) l.payload)
 stepped p l (grouping i made) =
-    wrote p l (writeAt p l.payload i) (countWith p l.payload i) (suc made) completed
-    (cond (eqb (suc made) (2 * width p (writeAt p l.payload i).unit + 3))
-    (cond (isLastWrite p l.payload i) ready (grouping (suc i) 0))
+    wrote p l (write_at p l.payload i) (count_with p l.payload i) (suc made) completed
+    (cond (eqb (suc made) (2 * width p (write_at p l.payload i).unit + 3))
+    (cond (is_last_write p l.payload i) ready (grouping (suc i) 0))
     (grouping i (suc made)))
 
 -- "Cut: if the next store is the marker's, the marker becomes the torn byte of the rule above. Then Cold, in every phase."
-abbrev pub wasCut : Plan → Ledger → List ℕ → Job → Ledger
-wasCut p l bytes cold = noted l cold l.payload
-wasCut p l bytes ready = noted l cold l.payload
-wasCut p l bytes (writing u made) =
-    wrote p l (write u l.payload) (write u l.payload ∷ []) (suc made) (tornBy bytes) cold
-wasCut p l bytes (recovering u made) = cleaned p l u (suc made) (tornBy bytes) cold l.payload
-wasCut p l bytes (grouping i made) =
-    wrote p l (writeAt p l.payload i) (countWith p l.payload i) (suc made) (tornBy bytes) cold
+abbrev pub was_cut : Plan → Ledger → List ℕ → Job → Ledger
+was_cut p l bytes cold = noted l cold l.payload
+was_cut p l bytes ready = noted l cold l.payload
+was_cut p l bytes (writing u made) =
+    wrote p l (write u l.payload) (write u l.payload ∷ []) (suc made) (torn_by bytes) cold
+was_cut p l bytes (recovering u made) = cleaned p l u (suc made) (torn_by bytes) cold l.payload
+was_cut p l bytes (grouping i made) =
+    wrote p l (write_at p l.payload i) (count_with p l.payload i) (suc made) (torn_by bytes) cold
 
 -- "Begin: Writing that unit, 0 made, payload noted." A ride begins a write of unit 0, a group that of its record, and a paid ride is one.
 -- "Wake: Ready if the marker is 1, otherwise Recovering the unit last written, 0 made."; or on to a standing record
 unfoldable pub accepted : Plan → Ledger → Call → Ledger
 accepted p l (begin role u payload) = noted l (writing u 0) payload
 accepted p l (ride turns) = noted l (writing 0 0) (plus (l.written 0) turns)
-accepted p l (group g) = noted l (grouping 0 0) (payloadOf p g)
-accepted p l (paid turns) = noted l (grouping 0 0) (payloadOf p (paidGroup (l.written 0) (l.written 1) turns))
+accepted p l (group g) = noted l (grouping 0 0) (payload_of p g)
+accepted p l (paid turns) = noted l (grouping 0 0) (payload_of p (paid_group (l.written 0) (l.written 1) turns))
 accepted p l step = stepped p l l.job
-accepted p l (cut bytes) = wasCut p l bytes l.job
+accepted p l (cut bytes) = was_cut p l bytes l.job
 accepted p l wake =
     noted l
     (cond (eqb l.marker OK) (resumed p l) (recovering l.unit 0))
     (cond (eqb l.marker OK) (reloaded p l) l.payload)
 
 -- "A call that 'Refusals' refuses .. changes nothing."
-abbrev pub unlessRefused : ℕ → Ledger → Ledger → Ledger
-unlessRefused zero l next = next
-unlessRefused (suc n) l next = l
+abbrev pub unless_refused : ℕ → Ledger → Ledger → Ledger
+unless_refused zero l next = next
+unless_refused (suc n) l next = l
 
 unfoldable pub fed : Plan → Ledger → Call → Ledger
-fed p l c = unlessRefused (told p l c) l (accepted p l c)
+fed p l c = unless_refused (told p l c) l (accepted p l c)
 
 -- the answers that the ledger tells of a list of calls, and the ledger after it
 unfoldable pub tells : Plan → Ledger → List Call → List ℕ

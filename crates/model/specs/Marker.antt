@@ -27,20 +27,20 @@ direction byte = cond (eqb byte A) BToA AToB
 
 -- "A torn marker takes each bit from the new code where m has a 1 and from the old marker where m has a 0":
 -- the lowest n bits of it, the lowest first.
-unfoldable pub tornBits : ℕ → ℕ → ℕ → ℕ → ℕ
-tornBits zero old new m = 0
-tornBits (suc n) old new m =
-    cond (eqb (m % 2) 1) (new % 2) (old % 2) + 2 * tornBits n (old / 2) (new / 2) (m / 2)
+unfoldable pub torn_bits : ℕ → ℕ → ℕ → ℕ → ℕ
+torn_bits zero old new m = 0
+torn_bits (suc n) old new m =
+    cond (eqb (m % 2) 1) (new % 2) (old % 2) + 2 * torn_bits n (old / 2) (new / 2) (m / 2)
 
 unfoldable pub torn : ℕ → ℕ → ℕ → ℕ
-torn old new m = tornBits 8 old new m
+torn old new m = torn_bits 8 old new m
 
 -- A store is completed, or a cut tears it. Ticket 9: "Cut now takes p bytes, one for each byte of the torn page"
 pub data End : Type 0 where
   completed : End
-  tornBy : List ℕ → End
+  torn_by : List ℕ → End
 
 -- what is left of a marker when a code is stored over it; it is its page's first byte
-abbrev pub markerLeft : End → ℕ → ℕ → ℕ
-markerLeft completed old code = code
-markerLeft (tornBy bytes) old code = torn old code (get_or bytes 0 0)
+abbrev pub marker_left : End → ℕ → ℕ → ℕ
+marker_left completed old code = code
+marker_left (torn_by bytes) old code = torn old code (get_or bytes 0 0)

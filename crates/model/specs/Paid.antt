@@ -17,7 +17,7 @@ use Rattle.model.specs.Demands.{MaySee}
 use Rattle.model.specs.Calls.{Device, Outcome}
 use Rattle.model.specs.Calls as calls
 use Rattle.model.specs.Ledger.{Call, begin, ride, group, paid, step, cut, wake, opening}
-use Rattle.model.specs.PowerCut.{run, answers, closedBy, Closes, repair, Takes}
+use Rattle.model.specs.PowerCut.{run, answers, closed_by, Closes, repair, Takes}
 use Rattle.model.specs.Totals.{passed, sum}
 
 -- ---- The price. "25 cents plus 7 cents for each started 500 turns, at most 900 cents": with no division
@@ -47,8 +47,8 @@ OnlyPaid p (cut bytes ∷ cs) = OnlyPaid p cs
 OnlyPaid p (wake ∷ cs) = OnlyPaid p cs
 
 -- "the same rides, those whose record passed": the turns of each
-abbrev pub ridesOver : Plan → List Call → List ℕ
-ridesOver p cs = passed p (opening p) [] cs
+abbrev pub rides_over : Plan → List Call → List ℕ
+rides_over p cs = passed p (opening p) [] cs
 
 -- ---- `cutOff` is what the closing cut left, and the steps are those of its repair.
 pub record Taken (p : Plan) (cutOff : Outcome) (rides : List ℕ) : Type 0 where
@@ -59,10 +59,10 @@ pub record Taken (p : Plan) (cutOff : Outcome) (rides : List ℕ) : Type 0 where
   pub turns : (c : Copy) → amount (copy_of p (run (repair steps) cutOff).image 0 c) ≡ sum rides
   pub cents : 1 < p.count → (c : Copy) → amount (copy_of p (run (repair steps) cutOff).image 1 c) ≡ sum (map price rides)
   -- and the console shows them, to a role that may see them
-  pub showsTurns : width p 0 ≡ 8
+  pub shows_turns : width p 0 ≡ 8
       → (role : Role) → MaySee p.rights role 0
       → calls.total_of (run (repair steps) cutOff).device (run (repair steps) cutOff).image role 0 ≡ record { number = 0; amount = sum rides }
-  pub showsCents : 1 < p.count → width p 1 ≡ 8
+  pub shows_cents : 1 < p.count → width p 1 ≡ 8
       → (role : Role) → MaySee p.rights role 1
       → calls.total_of (run (repair steps) cutOff).device (run (repair steps) cutOff).image role 1
       ≡ record { number = 0; amount = sum (map price rides) }
@@ -75,7 +75,7 @@ PaidAddUp =
     → (cs : List Call) (bytes : List ℕ)
     → Closes bytes cs (calls.format d image)
     → OnlyPaid d.plan cs
-    → Taken d.plan (run (closedBy bytes cs) (calls.format d image)) (ridesOver d.plan (closedBy bytes cs))
+    → Taken d.plan (run (closed_by bytes cs) (calls.format d image)) (rides_over d.plan (closed_by bytes cs))
 
 -- ---- The plans on which a ride can be paid for. A record has a byte for the member count, and for each of the two units one and its eight.
 pub record Sells (p : Plan) : Type 0 where
@@ -89,6 +89,6 @@ pub record Sales : Type 0 where
   -- on these the first paid ride is accepted, whatever its turns ..
   pub sold : (d : Device) (image : List ℕ)
       → (calls.format d image).number ≡ 0 → Sells d.plan
-      → (turns : ℕ) → turns < 18446744073709551616 → (calls.paidRide (calls.format d image).device (calls.format d image).image turns).number ≡ 0
+      → (turns : ℕ) → turns < 18446744073709551616 → (calls.paid_ride (calls.format d image).device (calls.format d image).image turns).number ≡ 0
   -- .. and on all others none ever passes
-  pub none : (p : Plan) → ¬ Sells p → (cs : List Call) → OnlyPaid p cs → ridesOver p cs ≡ []
+  pub none : (p : Plan) → ¬ Sells p → (cs : List Call) → OnlyPaid p cs → rides_over p cs ≡ []

@@ -7,13 +7,13 @@ abbrev pub width : Plan → ℕ → ℕ
 width p u = get_or p.widths u 0
 
 -- "1 k is 0 or above 8"
-unfoldable pub badCount : Plan → Bool
-badCount p = eqb p.count 0 || ltb 8 p.count
+unfoldable pub bad_count : Plan → Bool
+bad_count p = eqb p.count 0 || ltb 8 p.count
 
 -- "2 one of the first k widths is 0 or above 256"
-unfoldable pub badWidths : List ℕ → ℕ → Bool
-badWidths widths zero = false
-badWidths widths (suc k) = badWidths widths k || (eqb (get_or widths k 0) 0 || ltb 256 (get_or widths k 0))
+unfoldable pub bad_widths : List ℕ → ℕ → Bool
+bad_widths widths zero = false
+bad_widths widths (suc k) = bad_widths widths k || (eqb (get_or widths k 0) 0 || ltb 256 (get_or widths k 0))
 
 -- Ticket 9: "A plan gains a page size p: 1, 4, 8 or 16."
 pub data PageSize : ℕ → Type 0 where
@@ -23,5 +23,5 @@ pub data PageSize : ℕ → Type 0 where
   sixteen : PageSize 16
 
 -- "17 for another page size"
-unfoldable pub badPage : ℕ → Bool
-badPage page = not (eqb page 1 || (eqb page 4 || (eqb page 8 || eqb page 16)))
+unfoldable pub bad_page : ℕ → Bool
+bad_page page = not (eqb page 1 || (eqb page 4 || (eqb page 8 || eqb page 16)))

@@ -10,8 +10,8 @@ use Rattle.model.specs.declared.Phase.TheVariants.{Ready}
 use Rattle.model.specs.Marker.{OK}
 use Rattle.model.specs.Layout.{Copy, marker, width, total, get, copy_of}
 use Rattle.model.specs.Groups.{Write, last, padded, stands, remaining}
-use Rattle.model.specs.Refusals.{writeTotal}
-use Rattle.model.specs.Calls.{Device, Outcome, AllMarkersOk, recordIn}
+use Rattle.model.specs.Refusals.{write_total}
+use Rattle.model.specs.Calls.{Device, Outcome, AllMarkersOk, record_in}
 use Rattle.model.specs.Calls as calls
 use Rattle.model.specs.Ledger.{Call, begin, ride, group, paid, step, cut, wake, opening, tells, after}
 
@@ -20,7 +20,7 @@ unfoldable pub call : Call → Outcome → Outcome
 call (begin role u payload) o = calls.begin o.device o.image role u payload
 call (ride turns) o = calls.ride o.device o.image turns
 call (group g) o = calls.group o.device o.image g
-call (paid turns) o = calls.paidRide o.device o.image turns
+call (paid turns) o = calls.paid_ride o.device o.image turns
 call step o = calls.step o.device o.image
 call (cut bytes) o = calls.cut o.device o.image bytes
 call wake o = calls.wake o.device o.image
@@ -34,8 +34,8 @@ answers [] o = []
 answers (c ∷ cs) o = (call c o).number ∷ answers cs (call c o)
 
 -- a list closed by a cut with these bytes
-abbrev pub closedBy : List ℕ → List Call → List Call
-closedBy bytes cs = cs ++ (cut bytes ∷ [])
+abbrev pub closed_by : List ℕ → List Call → List Call
+closed_by bytes cs = cs ++ (cut bytes ∷ [])
 
 -- one wake, and then n steps
 abbrev pub repair : ℕ → List Call
@@ -54,7 +54,7 @@ pub data Repairs (p : Plan) (image : List ℕ) : ℕ → Type 0 where
 -- Ticket 10: "The steps to Ready add 2w + 3 for each member and the record if one stands after cleanup."
 unfoldable pub stores_of : Plan → List Write → ℕ
 stores_of p [] = 0
-stores_of p (x ∷ xs) = writeTotal (width p x.unit) + stores_of p xs
+stores_of p (x ∷ xs) = write_total (width p x.unit) + stores_of p xs
 
 -- `bytes` are the record unit's
 unfoldable pub added : Plan → List ℕ → ℕ
@@ -64,7 +64,7 @@ added p bytes = cond (stands p bytes) (stores_of p (remaining p (padded bytes)))
 pub record Takes (p : Plan) (cutOff : Outcome) (steps : ℕ) : Type 0 where
   pub cleaning : ℕ
   pub needed : Repairs p cutOff.image cleaning
-  pub exactly : steps ≡ cleaning + added p (recordIn p (run (repair cleaning) cutOff).image)
+  pub exactly : steps ≡ cleaning + added p (record_in p (run (repair cleaning) cutOff).image)
 
 -- ---- The repair. `before` is the image as it was before format.
 pub record Repaired (p : Plan) (before : List ℕ) (saved : ℕ → List ℕ) (cutOff : Outcome) : Type 0 where
@@ -74,7 +74,7 @@ pub record Repaired (p : Plan) (before : List ℕ) (saved : ℕ → List ℕ) (c
   pub accepted : answers (repair steps) cutOff ≡ replicate (1 + steps) 0
   -- the phase is Ready after exactly that many steps, and after none fewer
   pub ready : (run (repair steps) cutOff).device.phase ≡ Ready
-  pub notEarlier : (n : ℕ) → n < steps → ¬ ((run (repair n) cutOff).device.phase ≡ Ready)
+  pub not_earlier : (n : ℕ) → n < steps → ¬ ((run (repair n) cutOff).device.phase ≡ Ready)
   -- then every marker is OK, and both copies of every unit are its saved bytes
   pub markers : AllMarkersOk p (run (repair steps) cutOff).image
   pub copies : (u : ℕ) → u < p.count → (c : Copy) → copy_of p (run (repair steps) cutOff).image u c ≡ saved u
@@ -87,8 +87,8 @@ pub record Repaired (p : Plan) (before : List ℕ) (saved : ℕ → List ℕ) (c
 -- ---- After the format that gave f: every list of calls that a cut closes.
 pub record Survives (p : Plan) (before : List ℕ) (f : Outcome) (bytes : List ℕ) (cs : List Call) : Type 0 where
   -- each call answers what the ledger tells: the refusal's number, or 0
-  pub answered : answers (closedBy bytes cs) f ≡ tells p (opening p) (closedBy bytes cs)
-  pub repaired : Repaired p before (after p (opening p) (closedBy bytes cs)).saved (run (closedBy bytes cs) f)
+  pub answered : answers (closed_by bytes cs) f ≡ tells p (opening p) (closed_by bytes cs)
+  pub repaired : Repaired p before (after p (opening p) (closed_by bytes cs)).saved (run (closed_by bytes cs) f)
 
 -- Ticket 9: "Every claim's closing cut is now an accepted one": a cut with these bytes is, where the list from f ends
 abbrev pub Closes : List ℕ → List Call → Outcome → Type 0

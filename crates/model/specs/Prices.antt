@@ -7,5 +7,5 @@ unfoldable pub price : ℕ → ℕ
 price turns = cond (eqb turns 0) 0 (min 900 (25 + 7 * ((turns - 1) / 500 + 1)))
 
 -- "Unit 1, width 8, holds the cents taken, stored like the turns, and a paid ride saves both as one group, turns first."
-unfoldable pub paidGroup : List ℕ → List ℕ → ℕ → List ℕ
-paidGroup turnsHeld centsHeld turns = 0 ∷ (plus turnsHeld turns ++ (1 ∷ plus centsHeld (price turns)))
+unfoldable pub paid_group : List ℕ → List ℕ → ℕ → List ℕ
+paid_group turnsHeld centsHeld turns = 0 ∷ (plus turnsHeld turns ++ (1 ∷ plus centsHeld (price turns)))

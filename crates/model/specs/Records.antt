@@ -31,12 +31,12 @@ IsLast p r = r ≡ p.count - 1
 
 pub data Overlaps (p : Plan) (ms : List Write) : Type 0 where
   twice : Twice ms → Overlaps p ms
-  theRecord : (r : ℕ) → p.grouped ≡ true → IsLast p r → Has r ms → Overlaps p ms
+  the_record : (r : ℕ) → p.grouped ≡ true → IsLast p r → Has r ms → Overlaps p ms
 
 -- ---- "21 if there is no record or it is too narrow": it takes a byte more than the group
 pub data Narrow (p : Plan) (g : List ℕ) : Type 0 where
-  noRecord : p.grouped ≡ false → Narrow p g
-  tooNarrow : (r : ℕ) → IsLast p r → width p r < 1 + length g → Narrow p g
+  no_record : p.grouped ≡ false → Narrow p g
+  too_narrow : (r : ℕ) → IsLast p r → width p r < 1 + length g → Narrow p g
 
 -- ---- "The record is the member count, the members, then zeros."; "the payload being the record, zeros after it"; "passing 19 to 21"
 pub record Gives (p : Plan) (payload g : List ℕ) (ms : List Write) : Type 0 where
@@ -54,6 +54,6 @@ pub data Nth : List Write → ℕ → Write → Type 0 where
   tail : {ms : List Write} {i : ℕ} {y : Write} (x : Write) → Nth ms i y → Nth (x ∷ ms) (suc i) y
 
 pub data WriteOf (p : Plan) (payload : List ℕ) (ms : List Write) : ℕ → ℕ → List ℕ → Type 0 where
-  theRecord : (r : ℕ) → IsLast p r → WriteOf p payload ms 0 r (take (width p r) payload)
-  aMember : (i : ℕ) (x : Write) → Nth ms i x → WriteOf p payload ms (suc i) x.unit x.bytes
-  theZeros : (r : ℕ) → IsLast p r → WriteOf p payload ms (suc (length ms)) r (replicate (width p r) 0)
+  the_record : (r : ℕ) → IsLast p r → WriteOf p payload ms 0 r (take (width p r) payload)
+  a_member : (i : ℕ) (x : Write) → Nth ms i x → WriteOf p payload ms (suc i) x.unit x.bytes
+  the_zeros : (r : ℕ) → IsLast p r → WriteOf p payload ms (suc (length ms)) r (replicate (width p r) 0)

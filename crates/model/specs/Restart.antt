@@ -12,7 +12,7 @@ use Rattle.model.specs.declared.Plan.{Plan}
 use Rattle.model.specs.Calls.{Device, Outcome, outcome}
 use Rattle.model.specs.Calls as calls
 use Rattle.model.specs.Ledger.{Call, cut, opening, after}
-use Rattle.model.specs.PowerCut.{call, run, closedBy, Closes, Repaired}
+use Rattle.model.specs.PowerCut.{call, run, closed_by, Closes, Repaired}
 
 -- the device is gone, and start makes another; the image stays, and the number of the call
 abbrev pub restarted : Plan → Outcome → Outcome
@@ -32,8 +32,8 @@ PowerCutRestarting =
     → (calls.format d image).number ≡ 0
     → (cs : List Call) (bytes : List ℕ) (end : Outcome)
     → Closes bytes cs (calls.format d image)
-    → Leads d.plan (closedBy bytes cs) (calls.format d image) end
-    → Repaired d.plan image (after d.plan (opening d.plan) (closedBy bytes cs)).saved end
+    → Leads d.plan (closed_by bytes cs) (calls.format d image) end
+    → Repaired d.plan image (after d.plan (opening d.plan) (closed_by bytes cs)).saved end
 
 -- an outcome without its count of stores
 abbrev pub uncounted : Outcome → Outcome

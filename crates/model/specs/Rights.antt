@@ -27,13 +27,13 @@ right rights role u = get_or (line rights role) u NOTHING
 unfoldable pub may_write : Rights → Role → ℕ → Bool
 may_write rights role u = eqb (right rights role u) SEE-AND-WRITE
 
-unfoldable pub maySee : Rights → Role → ℕ → Bool
-maySee rights role u = eqb (right rights role u) SEE || may_write rights role u
+unfoldable pub may_see : Rights → Role → ℕ → Bool
+may_see rights role u = eqb (right rights role u) SEE || may_write rights role u
 
 -- "all nothing if refused"
-abbrev pub noRights : Rights
-noRights = record { rider = replicate 8 NOTHING; gym = replicate 8 NOTHING; service = replicate 8 NOTHING }
+abbrev pub no_rights : Rights
+no_rights = record { rider = replicate 8 NOTHING; gym = replicate 8 NOTHING; service = replicate 8 NOTHING }
 
 -- "The bench is service, with every right."
-abbrev pub serviceRights : Rights
-serviceRights = record { rider = replicate 8 NOTHING; gym = replicate 8 NOTHING; service = replicate 8 SEE-AND-WRITE }
+abbrev pub service_rights : Rights
+service_rights = record { rider = replicate 8 NOTHING; gym = replicate 8 NOTHING; service = replicate 8 SEE-AND-WRITE }

@@ -6,7 +6,7 @@ use Rattle.std.specs.Prelude.{ℕ, ◌<◌, ◌≡◌, List, [], ◌∷◌, leng
 use Rattle.model.specs.declared.Phase.TheVariants.{Ready}
 use Rattle.model.specs.declared.Role.{Role}
 use Rattle.model.specs.Layout.{unit_of}
-use Rattle.model.specs.Refusals.{readNumber}
+use Rattle.model.specs.Refusals.{read_number}
 use Rattle.model.specs.Calls.{Device, Outcome, outcome, view}
 use Rattle.model.specs.Calls as calls
 use Rattle.model.specs.Demands.{MaySee, MayWrite}
@@ -20,7 +20,7 @@ pub data Ask : Type 0 where
 
 -- what a call leaves; a read only looks, so the next call gets the device and the image that the read got
 unfoldable pub ask : Role → Ask → Device → List ℕ → Outcome
-ask role (read u) d image = outcome (readNumber (view d image) role u) d image
+ask role (read u) d image = outcome (read_number (view d image) role u) d image
 ask role (total u) d image = outcome (calls.total_of d image role u).number d image
 ask role (begin u payload) d image = calls.begin d image role u payload
 ask role step d image = calls.step d image

@@ -10,24 +10,24 @@
 use Rattle.std.specs.Prelude.{ℕ, suc, ◌<◌, ◌≡◌, List, [], ◌∷◌, ◌++◌, Bool, true, false, cond, ◌&&◌, eqb}
 use Rattle.model.specs.declared.Plan.{Plan}
 use Rattle.model.specs.declared.Phase.TheVariants.{Ready}
-use Rattle.model.specs.Marker.{End, completed, tornBy}
+use Rattle.model.specs.Marker.{End, completed, torn_by}
 use Rattle.model.specs.Layout.{Copy, copy_of}
-use Rattle.model.specs.Groups.{Write, write, writeAt}
+use Rattle.model.specs.Groups.{Write, write, write_at}
 use Rattle.model.specs.Records.{IsGroup, Has, Nth}
 use Rattle.model.specs.Refusals.{Job, cold, ready, writing, recovering, grouping}
 use Rattle.model.specs.Calls.{Device, Outcome}
 use Rattle.model.specs.Calls as calls
-use Rattle.model.specs.Ledger.{Ledger, Call, begin, ride, group, paid, step, cut, wake, opening, told, countWith, passesAt, fed, after}
-use Rattle.model.specs.PowerCut.{call, run, closedBy, Closes, repair, Takes}
+use Rattle.model.specs.Ledger.{Ledger, Call, begin, ride, group, paid, step, cut, wake, opening, told, count_with, passes_at, fed, after}
+use Rattle.model.specs.PowerCut.{call, run, closed_by, Closes, repair, Takes}
 
 -- ---- "unless a later write that passed replaced it"
 -- the writes that count as passed with the next store, which ends so
 abbrev pub passing : Plan → Ledger → End → Job → List Write
 passing p l e cold = []
 passing p l e ready = []
-passing p l e (writing u made) = cond (passesAt p l (write u l.payload) (suc made) e) (write u l.payload ∷ []) []
+passing p l e (writing u made) = cond (passes_at p l (write u l.payload) (suc made) e) (write u l.payload ∷ []) []
 passing p l e (recovering u made) = []
-passing p l e (grouping i made) = cond (passesAt p l (writeAt p l.payload i) (suc made) e) (countWith p l.payload i) []
+passing p l e (grouping i made) = cond (passes_at p l (write_at p l.payload i) (suc made) e) (count_with p l.payload i) []
 
 abbrev pub passed_by : Plan → Ledger → Call → List Write
 passed_by p l (begin role u payload) = []
@@ -35,7 +35,7 @@ passed_by p l (ride turns) = []
 passed_by p l (group g) = []
 passed_by p l (paid turns) = []
 passed_by p l step = passing p l completed l.job
-passed_by p l (cut bytes) = passing p l (tornBy bytes) l.job
+passed_by p l (cut bytes) = passing p l (torn_by bytes) l.job
 passed_by p l wake = []
 
 -- those of a list of calls; a refused call has none
@@ -84,9 +84,9 @@ AllOrNone =
     → (more : List Call) (bytes : List ℕ)
     → Closes bytes (cs ++ (group g ∷ more)) (calls.format d image)
     → Whole d.plan g
-    (later d.plan (after d.plan (opening d.plan) (cs ++ (group g ∷ []))) (closedBy bytes more))
+    (later d.plan (after d.plan (opening d.plan) (cs ++ (group g ∷ []))) (closed_by bytes more))
     (run cs (calls.format d image))
-    (run (closedBy bytes (cs ++ (group g ∷ more))) (calls.format d image))
+    (run (closed_by bytes (cs ++ (group g ∷ more))) (calls.format d image))
 
 -- ---- And where nothing else is asked for, with no word of the ledger: steps, cuts and wakes, as many and in whatever order.
 abbrev pub NoWrite : List Call → Type 0
@@ -108,4 +108,4 @@ AllOrNoneAlone =
     → (more : List Call) → NoWrite more
     → (bytes : List ℕ)
     → Closes bytes (cs ++ (group g ∷ more)) (calls.format d image)
-    → Whole d.plan g [] (run cs (calls.format d image)) (run (closedBy bytes (cs ++ (group g ∷ more))) (calls.format d image))
+    → Whole d.plan g [] (run cs (calls.format d image)) (run (closed_by bytes (cs ++ (group g ∷ more))) (calls.format d image))

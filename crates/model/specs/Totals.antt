@@ -5,68 +5,68 @@
 use Rattle.std.specs.Prelude.{ℕ, zero, suc, ◌+◌, ◌≡◌, List, [], ◌∷◌, ◌++◌, Bool, false, cond, replicate}
 use Rattle.model.specs.declared.Plan.{Plan}
 use Rattle.model.specs.declared.Role.{Role}
-use Rattle.model.specs.Marker.{End, completed, tornBy}
+use Rattle.model.specs.Marker.{End, completed, torn_by}
 use Rattle.model.specs.Layout.{Copy, width, copy_of}
 use Rattle.model.specs.Turns.{amount}
-use Rattle.model.specs.Groups.{write, among, members, writeAt}
+use Rattle.model.specs.Groups.{write, among, members, write_at}
 use Rattle.model.specs.Refusals.{Job, cold, ready, writing, recovering, grouping}
 use Rattle.model.specs.Calls.{Device, Outcome}
 use Rattle.model.specs.Calls as calls
-use Rattle.model.specs.Ledger.{Ledger, Call, begin, ride, group, paid, step, cut, wake, opening, told, passesAt, fed}
+use Rattle.model.specs.Ledger.{Ledger, Call, begin, ride, group, paid, step, cut, wake, opening, told, passes_at, fed}
 use Rattle.model.specs.Demands.{MaySee}
-use Rattle.model.specs.PowerCut.{run, answers, closedBy, Closes, repair, Takes}
+use Rattle.model.specs.PowerCut.{run, answers, closed_by, Closes, repair, Takes}
 
 -- ---- "rides whose write passed"
 -- the write under way, of a group that of its record, passes at its next store, which ends so
-abbrev pub passesNext : Plan → Ledger → End → Job → Bool
-passesNext p l e cold = false
-passesNext p l e ready = false
-passesNext p l e (writing u made) = passesAt p l (write u l.payload) (suc made) e
-passesNext p l e (recovering u made) = false
-passesNext p l e (grouping zero made) = passesAt p l (writeAt p l.payload 0) (suc made) e
-passesNext p l e (grouping (suc i) made) = false
+abbrev pub passes_next : Plan → Ledger → End → Job → Bool
+passes_next p l e cold = false
+passes_next p l e ready = false
+passes_next p l e (writing u made) = passes_at p l (write u l.payload) (suc made) e
+passes_next p l e (recovering u made) = false
+passes_next p l e (grouping zero made) = passes_at p l (write_at p l.payload 0) (suc made) e
+passes_next p l e (grouping (suc i) made) = false
 
-abbrev pub passesBy : Plan → Ledger → Call → Bool
-passesBy p l (begin role u payload) = false
-passesBy p l (ride turns) = false
-passesBy p l (group g) = false
-passesBy p l (paid turns) = false
-passesBy p l step = passesNext p l completed l.job
-passesBy p l (cut bytes) = passesNext p l (tornBy bytes) l.job
-passesBy p l wake = false
+abbrev pub passes_by : Plan → Ledger → Call → Bool
+passes_by p l (begin role u payload) = false
+passes_by p l (ride turns) = false
+passes_by p l (group g) = false
+passes_by p l (paid turns) = false
+passes_by p l step = passes_next p l completed l.job
+passes_by p l (cut bytes) = passes_next p l (torn_by bytes) l.job
+passes_by p l wake = false
 
 -- the turns that are due once an accepted call is made: those of a ride, paid or not; a begin's write has none, nor a group's
-abbrev pub dueAfter : Call → List ℕ → List ℕ
-dueAfter (begin role u payload) due = []
-dueAfter (ride turns) due = turns ∷ []
-dueAfter (group g) due = []
-dueAfter (paid turns) due = turns ∷ []
-dueAfter step due = due
-dueAfter (cut bytes) due = due
-dueAfter wake due = due
+abbrev pub due_after : Call → List ℕ → List ℕ
+due_after (begin role u payload) due = []
+due_after (ride turns) due = turns ∷ []
+due_after (group g) due = []
+due_after (paid turns) due = turns ∷ []
+due_after step due = due
+due_after (cut bytes) due = due
+due_after wake due = due
 
 -- the turns that an accepted call counts: those due, if the write under way passes at it
 abbrev pub counts : Plan → Ledger → List ℕ → Call → List ℕ
-counts p l due c = cond (passesBy p l c) due []
+counts p l due c = cond (passes_by p l c) due []
 
-abbrev pub whenAccepted : ℕ → List ℕ → List ℕ → List ℕ
-whenAccepted zero then before = then
-whenAccepted (suc refusal) then before = before
+abbrev pub when_accepted : ℕ → List ℕ → List ℕ → List ℕ
+when_accepted zero then before = then
+when_accepted (suc refusal) then before = before
 
 -- the turns of the rides whose write passed, in their order; `due` are those of the write under way
 unfoldable pub passed : Plan → Ledger → List ℕ → List Call → List ℕ
 passed p l due [] = []
 passed p l due (c ∷ cs) =
-    whenAccepted (told p l c) (counts p l due c) []
-    ++ passed p (fed p l c) (whenAccepted (told p l c) (dueAfter c due) due) cs
+    when_accepted (told p l c) (counts p l due c) []
+    ++ passed p (fed p l c) (when_accepted (told p l c) (due_after c due) due) cs
 
 unfoldable pub sum : List ℕ → ℕ
 sum [] = 0
 sum (n ∷ ns) = n + sum ns
 
 -- the turns over a list from a formatted device
-abbrev pub turnsOver : Plan → List Call → ℕ
-turnsOver p cs = sum (passed p (opening p) [] cs)
+abbrev pub turns_over : Plan → List Call → ℕ
+turns_over p cs = sum (passed p (opening p) [] cs)
 
 -- "other units may be written in that list, unit 0 only through rides": no begin of unit u, and no group that has it
 abbrev pub OnlyRides : Plan → ℕ → List Call → Type 0
@@ -101,4 +101,4 @@ TurnsAddUp =
     → (cs : List Call) (bytes : List ℕ)
     → Closes bytes cs (calls.format d image)
     → OnlyRides d.plan 0 cs
-    → Totalled d.plan (run (closedBy bytes cs) (calls.format d image)) (turnsOver d.plan (closedBy bytes cs))
+    → Totalled d.plan (run (closed_by bytes cs) (calls.format d image)) (turns_over d.plan (closed_by bytes cs))

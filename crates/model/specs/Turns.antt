@@ -7,10 +7,10 @@ amount [] = 0
 amount (x ∷ xs) = x + 256 * amount xs
 
 -- and the n bytes that hold a number
-unfoldable pub inBytes : ℕ → ℕ → List ℕ
-inBytes zero v = []
-inBytes (suc n) v = v % 256 ∷ inBytes n (v / 256)
+unfoldable pub in_bytes : ℕ → ℕ → List ℕ
+in_bytes zero v = []
+in_bytes (suc n) v = v % 256 ∷ in_bytes n (v / 256)
 
 -- "total plus turns": the eight bytes of what `held` holds, and more
 unfoldable pub plus : List ℕ → ℕ → List ℕ
-plus held more = inBytes 8 (amount held + more)
+plus held more = in_bytes 8 (amount held + more)

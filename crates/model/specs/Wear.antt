@@ -14,13 +14,13 @@ use Rattle.model.specs.Ledger.{Ledger, Call, begin, ride, group, paid, step, cut
 use Rattle.model.specs.PowerCut.{run, stores_of, added}
 
 -- ---- A sum over the accepted calls of a list. What a call adds is asked with the ledger before it.
-abbrev pub ifAccepted : ℕ → ℕ → ℕ
-ifAccepted zero n = n
-ifAccepted (suc refusal) n = 0
+abbrev pub if_accepted : ℕ → ℕ → ℕ
+if_accepted zero n = n
+if_accepted (suc refusal) n = 0
 
-unfoldable pub overAccepted : (Ledger → Call → ℕ) → Plan → Ledger → List Call → ℕ
-overAccepted each p l [] = 0
-overAccepted each p l (c ∷ cs) = ifAccepted (told p l c) (each l c) + overAccepted each p (fed p l c) cs
+unfoldable pub over_accepted : (Ledger → Call → ℕ) → Plan → Ledger → List Call → ℕ
+over_accepted each p l [] = 0
+over_accepted each p l (c ∷ cs) = if_accepted (told p l c) (each l c) + over_accepted each p (fed p l c) cs
 
 -- "the completed stores of the list": an accepted step completes one
 abbrev pub completes : Ledger → Call → ℕ
@@ -33,12 +33,12 @@ completes l (cut bytes) = 0
 completes l wake = 0
 
 -- the torn ones, which the count leaves out: a cut tears a store in Writing, Recovering and a group phase
-abbrev pub tornAt : Job → ℕ
-tornAt cold = 0
-tornAt ready = 0
-tornAt (writing u made) = 1
-tornAt (recovering u made) = 1
-tornAt (grouping i made) = 1
+abbrev pub torn_at : Job → ℕ
+torn_at cold = 0
+torn_at ready = 0
+torn_at (writing u made) = 1
+torn_at (recovering u made) = 1
+torn_at (grouping i made) = 1
 
 abbrev pub tears : Ledger → Call → ℕ
 tears l (begin role u payload) = 0
@@ -46,7 +46,7 @@ tears l (ride turns) = 0
 tears l (group g) = 0
 tears l (paid turns) = 0
 tears l step = 0
-tears l (cut bytes) = tornAt l.job
+tears l (cut bytes) = torn_at l.job
 tears l wake = 0
 
 -- ---- The ceiling: "the sum of 2w + 3 over the accepted begins, plus, for each cut, 1 plus the largest width of the plan".
@@ -67,24 +67,24 @@ allows p l (cut bytes) = 1 + widest p p.count + added p ((accepted p l (cut byte
 allows p l wake = 0
 
 -- ---- Of a list of calls from a formatted device
-abbrev pub completedIn : Plan → List Call → ℕ
-completedIn p cs = overAccepted completes p (opening p) cs
+abbrev pub completed_in : Plan → List Call → ℕ
+completed_in p cs = over_accepted completes p (opening p) cs
 
-abbrev pub tornIn : Plan → List Call → ℕ
-tornIn p cs = overAccepted tears p (opening p) cs
+abbrev pub torn_in : Plan → List Call → ℕ
+torn_in p cs = over_accepted tears p (opening p) cs
 
 abbrev pub ceiling : Plan → List Call → ℕ
-ceiling p cs = overAccepted (allows p) p (opening p) cs
+ceiling p cs = over_accepted (allows p) p (opening p) cs
 
 -- ---- The theorem. `stores` is the device's count after the list.
 pub record Worn (p : Plan) (cs : List Call) (stores : ℕ) : Type 0 where
   -- "It also equals the completed stores of the list, or 4,294,967,295 if those are more."
-  pub counts : stores ≡ min (completedIn p cs) 4294967295
+  pub counts : stores ≡ min (completed_in p cs) 4294967295
   -- "the count is at most the sum"
-  pub atMost : stores ≤ ceiling p cs
+  pub at_most : stores ≤ ceiling p cs
   -- More than was asked, since a torn store wears the chip as well: the ceiling holds with the torn ones counted in, and also where
   -- the count stands still.
-  pub tornToo : completedIn p cs + tornIn p cs ≤ ceiling p cs
+  pub torn_too : completed_in p cs + torn_in p cs ≤ ceiling p cs
 
 -- "For every list of begin, step, cut and wake from a formatted device"
 abbrev pub WearCeiling : Type 0

@@ -2,15 +2,15 @@
 use mathlib.Core.Path.{refl}
 use Rattle.script.specs.declared.Form.TheVariants.{Plan, Write, Step, Cut, Wake, Show}
 use Rattle.model.specs.PowerCut.{call, run}
-use Rattle.model.proofs.InARow.{steps-run}
+use Rattle.model.proofs.InARow.{steps_run}
 use Rattle.play.specs.Plays.{plays}
 use Rattle.play.specs.AsCalls.{LinesAreCalls}
 
-pub plays-run : LinesAreCalls
+pub plays_run : LinesAreCalls
 unfolding plays run call
-plays-run (Plan at count page) line d image = refl
-plays-run (Write unit at count) line d image = refl
-plays-run (Step n) line d image = steps-run n d image
-plays-run (Cut at count) line d image = refl
-plays-run Wake line d image = refl
-plays-run Show line d image = refl
+plays_run (Plan at count page) line d image = refl
+plays_run (Write unit at count) line d image = refl
+plays_run (Step n) line d image = steps_run n d image
+plays_run (Cut at count) line d image = refl
+plays_run Wake line d image = refl
+plays_run Show line d image = refl

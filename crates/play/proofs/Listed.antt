@@ -5,8 +5,8 @@ use mathlib.Core.List.{List}
 use lib.ListN.{length, take}
 use lib.Seq.{sets, length-take-le}
 use Rattle.list.specs.declared.Kind.TheVariants.{Byte}
-use Rattle.list.specs.Items.{valuesAt}
-use Rattle.list.proofs.Values.{values-front}
+use Rattle.list.specs.Items.{values_at}
+use Rattle.list.proofs.Values.{values_front}
 use Rattle.model.specs.Calls.{Outcome}
 use Rattle.store.specs.declared.Answer.{Answer}
 use Rattle.store.specs.Modelled.{Gives}
@@ -16,7 +16,7 @@ use Rattle.store.proofs.Laws.{gives_as}
 pub front_length : (after values : List ℕ) (most n : ℕ) → after ≡ values → length values ≡ most → n ≤ most → n ≡ length (take n after)
 front_length after values most n e l h = sym (length-take-le n after (rw (e, l) h))
 
-pub with-listed : (call : List ℕ → Outcome) (line before after : List ℕ) (at count : ℕ) {r : Answer} {left : List ℕ}
-    → after ≡ sets before 0 (valuesAt Byte line at count) → count ≤ length before → Gives r left (call (take count after))
-    → Gives r left (call (valuesAt Byte line at count))
-with-listed call line before after at count e h g = gives_as (ap call (ap (take count) e ∙ values-front Byte line before at count h)) g
+pub with_listed : (call : List ℕ → Outcome) (line before after : List ℕ) (at count : ℕ) {r : Answer} {left : List ℕ}
+    → after ≡ sets before 0 (values_at Byte line at count) → count ≤ length before → Gives r left (call (take count after))
+    → Gives r left (call (values_at Byte line at count))
+with_listed call line before after at count e h g = gives_as (ap call (ap (take count) e ∙ values_front Byte line before at count h)) g

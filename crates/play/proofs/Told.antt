@@ -6,18 +6,18 @@ use mathlib.Core.List.{List}
 use mathlib.Core.Option.{some}
 use lib.ListN.{length}
 use Rattle.script.specs.declared.Form.{Form}
-use Rattle.printing.specs.Printed.{answerLine}
+use Rattle.printing.specs.Printed.{answer_line}
 use Rattle.text.specs.Wrote.{Wrote}
 use Rattle.store.specs.declared.Answer.{Answer}
 use Rattle.store.specs.Modelled.{modelled, Gives}
 use Rattle.model.specs.Calls.{Outcome}
 use Rattle.play.specs.declared.Played.{Played}
-use Rattle.play.specs.Plays.{Buffer, placeFor, word, isPlan, Plays}
+use Rattle.play.specs.Plays.{Buffer, place_for, word, is_plan, Plays}
 
 pub told : (form : Form) (o : Outcome) (a : Answer) (r : Played) (left before after w : List ℕ) (used : ℕ) → word form ≡ some w
-    → isPlan form ≡ false → Gives a left o
+    → is_plan form ≡ false → Gives a left o
     → (r.device ≡ a.device) × (r.bad ≡ false) × Buffer after r.used
-    × Wrote before (placeFor (length before) used) (answerLine w a.number) after r.used
+    × Wrote before (place_for (length before) used) (answer_line w a.number) after r.used
     → Plays form o r left before used after
 told form o a r left before after w used ew ep g t =
     record {

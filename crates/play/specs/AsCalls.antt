@@ -1,7 +1,7 @@
 -- A line of a script is a list of the power-cut theorem's calls, so what the theorem says of lists it says of scripts.
 use Rattle.std.specs.Prelude.{ℕ, ◌≡◌, List, [], ◌∷◌, replicate}
 use Rattle.list.specs.declared.Kind.TheVariants.{Byte}
-use Rattle.list.specs.Items.{valuesAt}
+use Rattle.list.specs.Items.{values_at}
 use Rattle.script.specs.declared.Form.{Form}
 use Rattle.script.specs.declared.Form.TheVariants.{Plan, Write, Step, Cut, Wake, Show}
 use Rattle.model.specs.declared.Role.TheVariants.{Service}
@@ -10,16 +10,16 @@ use Rattle.model.specs.Ledger.{Call, begin, step, cut, wake}
 use Rattle.model.specs.PowerCut.{run}
 use Rattle.play.specs.Plays.{plays}
 
-abbrev pub callsOfLine : Form → List ℕ → List Call
-callsOfLine (Plan at count page) line = []
-callsOfLine (Write unit at count) line = begin Service unit (valuesAt Byte line at count) ∷ []
-callsOfLine (Step n) line = replicate n step
-callsOfLine (Cut at count) line = cut (valuesAt Byte line at count) ∷ []
-callsOfLine Wake line = wake ∷ []
-callsOfLine Show line = []
+abbrev pub calls_of_line : Form → List ℕ → List Call
+calls_of_line (Plan at count page) line = []
+calls_of_line (Write unit at count) line = begin Service unit (values_at Byte line at count) ∷ []
+calls_of_line (Step n) line = replicate n step
+calls_of_line (Cut at count) line = cut (values_at Byte line at count) ∷ []
+calls_of_line Wake line = wake ∷ []
+calls_of_line Show line = []
 
 -- for every form, line, device and image; proved in proofs/AsCalls.antt
 abbrev pub LinesAreCalls : Type 0
 LinesAreCalls =
     (form : Form) (line : List ℕ) (d : Device) (image : List ℕ)
-    → plays form line d image ≡ run (callsOfLine form line) (outcome 0 d image)
+    → plays form line d image ≡ run (calls_of_line form line) (outcome 0 d image)

@@ -2,17 +2,17 @@
 // All lines are printed into one lent buffer; `flush` alone writes it out. Its users are our own programs, which lend it room enough.
 ghost use Rattle.std.specs.Prelude.{◌≡◌, false, ◌+◌, ◌<◌, ◌≤◌, length};
 ghost use Rattle.model.specs.declared.Role.TheVariants.{Service};
-ghost use Rattle.model.specs.Refusals.{startNumber};
+ghost use Rattle.model.specs.Refusals.{start_number};
 ghost use Rattle.model.specs.Calls.{begin, cut};
 ghost use Rattle.store.specs.Modelled.{modelled, Gives};
 ghost use Rattle.list.specs.declared.Kind.TheVariants.{Byte};
 ghost use Rattle.script.specs.declared.Line.TheVariants.{Is};
 ghost use Rattle.token.specs.Ascii.{ascii};
-ghost use Rattle.list.specs.Items.{valuesAt};
+ghost use Rattle.list.specs.Items.{values_at};
 ghost use Rattle.script.specs.Line.{form_of};
-ghost use Rattle.printing.specs.Printed.{answerLine, lineMost};
+ghost use Rattle.printing.specs.Printed.{answer_line, line_most};
 ghost use Rattle.text.specs.Wrote.{Wrote};
-ghost use Rattle.play.specs.Plays.{Buffer, placeFor, Held, plays, Plays};
+ghost use Rattle.play.specs.Plays.{Buffer, place_for, Held, plays, Plays};
 
 use layout::base_of;
 use model::{Plan, Role};
@@ -40,7 +40,7 @@ fn flush(out: &[u8], used: usize)
 // The place for the next line: the buffer is written out before if it may not fit.
 fn room(out: &[u8], used: usize) -> usize
     requires { Buffer out.now used }
-    ensures { (result ≡ placeFor (length out.now) used) × (result + lineMost ≤ length out.now) }
+    ensures { (result ≡ place_for (length out.now) used) × (result + line_most ≤ length out.now) }
 {
     if out.len() - used < printing::LINE_MOST {
         flush(out, used);
@@ -52,7 +52,7 @@ fn room(out: &[u8], used: usize) -> usize
 // Prints a word and a number.
 fn print(out: &mut [u8], used: usize, word: &[u8], number: usize) -> usize
     requires { Buffer out.old used × (length word.now ≤ 5) × (number < 100000) }
-    ensures { Wrote out.old (placeFor (length out.old) used) (answerLine word.now number)
+    ensures { Wrote out.old (place_for (length out.old) used) (answer_line word.now number)
         out.new result × Buffer out.new result }
 {
     let at = room(out, used);
@@ -62,7 +62,7 @@ fn print(out: &mut [u8], used: usize, word: &[u8], number: usize) -> usize
 // Prints that a line is bad.
 fn print_bad(out: &mut [u8], used: usize, number: usize) -> usize
     requires { Buffer out.old used × (number < 100000) }
-    ensures { Wrote out.old (placeFor (length out.old) used) (answerLine (ascii "bad") number)
+    ensures { Wrote out.old (place_for (length out.old) used) (answer_line (ascii "bad") number)
         out.new result × Buffer out.new result }
 {
     print(out, used, b"bad", number)
@@ -86,7 +86,7 @@ fn show(out: &mut [u8], used: usize, plan: Plan, image: &[u8]) -> usize
 // Start, and format over an image of exactly the units' length: the answer of the last call.
 fn open(plan: Plan, image: &mut [u8]) -> Answer
     requires { 4224 ≤ length image.old }
-    ensures { result.number ≡ 0 → startNumber plan ≡ 0 }
+    ensures { result.number ≡ 0 → start_number plan ≡ 0 }
 {
     let started = Device::start(plan);
     if started.number != 0 {
@@ -101,7 +101,7 @@ fn open(plan: Plan, image: &mut [u8]) -> Answer
 fn write(device: Device, image: &[u8], line: &[u8], unit: u16, at: usize, count: usize) -> Answer
     requires { count ≤ 256 }
     ensures { Gives result image.now
-        (begin (modelled device) image.now Service unit (valuesAt Byte line.now at count)) }
+        (begin (modelled device) image.now Service unit (values_at Byte line.now at count)) }
 {
     let mut payload = [0u8; 256];
     script::bytes_into(line, at, count, &mut payload);
@@ -112,7 +112,7 @@ fn write(device: Device, image: &[u8], line: &[u8], unit: u16, at: usize, count:
 fn cut(device: Device, image: &mut [u8], line: &[u8], at: usize, count: usize) -> Answer
     requires { count ≤ 16 }
     ensures { Gives result image.new
-        (cut (modelled device) image.old (valuesAt Byte line.now at count)) }
+        (cut (modelled device) image.old (values_at Byte line.now at count)) }
 {
     let mut page = [0u8; 16];
     script::bytes_into(line, at, count, &mut page);
@@ -123,7 +123,7 @@ fn cut(device: Device, image: &mut [u8], line: &[u8], at: usize, count: usize) -
 fn tell(word: &[u8], answer: Answer, out: &mut [u8], used: usize) -> Played
     requires { Buffer out.old used × (length word.now ≤ 5) }
     ensures { (result.device ≡ answer.device) × (result.bad ≡ false) × Buffer out.new result.used
-        × Wrote out.old (placeFor (length out.old) used) (answerLine word.now answer.number)
+        × Wrote out.old (place_for (length out.old) used) (answer_line word.now answer.number)
         out.new result.used }
 {
     let device = answer.device;

@@ -7,16 +7,16 @@ use lib.Seq.{drop-cons}
 use native.Mathlib.Nat.{add-sub_cancel_left}
 use native.Mathlib.Omega.{arith}
 use Rattle.model.specs.declared.Plan.{Plan}
-use Rattle.model.specs.Layout.{copyA, copyB, byte, width, base, total, place, get, copy_of}
-use Rattle.model.specs.Refusals.{startNumber}
-use Rattle.model.proofs.RefusalLaws.{start-says}
+use Rattle.model.specs.Layout.{copy_a, copy_b, byte, width, base, total, place, get, copy_of}
+use Rattle.model.specs.Refusals.{start_number}
+use Rattle.model.proofs.RefusalLaws.{start_says}
 use Rattle.lookup.specs.declared.Span.{Span}
 use Rattle.lookup.specs.Spans.{span_of, Spans, Sound}
-use Rattle.lookup.proofs.Laws.{looked-up, span-sound, span-inside}
-use Rattle.printing.specs.Printed.{unitText, unitLine}
+use Rattle.lookup.proofs.Laws.{looked_up, span_sound, span_inside}
+use Rattle.printing.specs.Printed.{unit_text, unit_line}
 
-pub take-one : (xs : List ℕ) (i : ℕ) → i < length xs → take 1 (drop i xs) ≡ get_or xs i 0 ∷ []
-take-one xs i h = rw (drop-cons xs i 0 h)
+pub take_one : (xs : List ℕ) (i : ℕ) → i < length xs → take 1 (drop i xs) ≡ get_or xs i 0 ∷ []
+take_one xs i h = rw (drop-cons xs i 0 h)
 
 -- the part `&xs[a..a + n]`
 abbrev pub part : List ℕ → ℕ → ℕ → List ℕ
@@ -28,23 +28,23 @@ pub record Looked (p : Plan) (image : List ℕ) (u : ℕ) (q : Span) : Type 0 wh
   pub sound : Sound q
   pub inside : q.end ≤ length image
 
-pub looked : (p : Plan) (image : List ℕ) (u : ℕ) (q : Span) → startNumber p ≡ 0 → total p ≤ length image → u < p.count
+pub looked : (p : Plan) (image : List ℕ) (u : ℕ) (q : Span) → start_number p ≡ 0 → total p ≤ length image → u < p.count
     → Spans p u (length image) q → Looked p image u q
 looked p image u q e long h s =
-    let ok = start-says p e in
-    let is = s.is (looked-up p ok u h (length image) q long s) in
-    record { is = is; sound = span-sound p ok u h q is; inside = span-inside p ok u h (length image) q long is }
+    let ok = start_says p e in
+    let is = s.is (looked_up p ok u h (length image) q long s) in
+    record { is = is; sound = span_sound p ok u h q is; inside = span_inside p ok u h (length image) q long is }
 
 -- the parts that begin where the lookup says are its marker and its copies
-pub unit-parts : (p : Plan) (image : List ℕ) (u : ℕ) (q : Span) (first second : ℕ) → Looked p image u q
+pub unit_parts : (p : Plan) (image : List ℕ) (u : ℕ) (q : Span) (first second : ℕ) → Looked p image u q
     → first ≡ q.base + q.a → second ≡ q.base + q.b
-    → unitText u (part image q.base 1) (part image first q.width) (part image second q.width) ≡ unitLine p image u
-unfolding unitLine get copy_of
-unit-parts p image u q first second l is-a is_b =
-    let base-is : q.base ≡ base p u = ap (λ (t : Span). t.base) l.is in
+    → unit_text u (part image q.base 1) (part image first q.width) (part image second q.width) ≡ unit_line p image u
+unfolding unit_line get copy_of
+unit_parts p image u q first second l is-a is_b =
+    let base_is : q.base ≡ base p u = ap (λ (t : Span). t.base) l.is in
     let wide : q.width ≡ width p u = ap (λ (t : Span). t.width) l.is in
     let log : base p u + 0 ≡ q.base = omega arith in
-    let copy-a : place p u (byte copyA 0) ≡ first = omega (arith, ap (λ (t : Span). t.a) l.is) in
-    let copy-b : place p u (byte copyB 0) ≡ second = omega (arith, ap (λ (t : Span). t.b) l.is) in
+    let copy_a_lem : place p u (byte copy_a 0) ≡ first = omega (arith, ap (λ (t : Span). t.a) l.is) in
+    let copy_b_lem : place p u (byte copy_b 0) ≡ second = omega (arith, ap (λ (t : Span). t.b) l.is) in
     let h : q.base < length image = omega (arith, l.sound.marker, l.sound.copies, l.sound.ends, l.inside) in
-    rw (copy-a, copy-b) (simp (add-sub_cancel_left, log, ← wide, take-one image q.base h))
+    rw (copy_a_lem, copy_b_lem) (simp (add-sub_cancel_left, log, ← wide, take_one image q.base h))

@@ -2,15 +2,15 @@
 // calls, as the `requires` ask.
 ghost use Rattle.std.specs.Prelude.{◌≡◌, ◌+◌, ◌*◌, ◌<◌, ◌≤◌, length};
 ghost use Rattle.model.specs.Layout.{total};
-ghost use Rattle.model.specs.Refusals.{startNumber};
+ghost use Rattle.model.specs.Refusals.{start_number};
 ghost use Rattle.text.specs.Wrote.{Wrote};
-ghost use Rattle.printing.specs.Printed.{numbered, answerLine, listed, unitText, unitLine, lineMost};
+ghost use Rattle.printing.specs.Printed.{numbered, answer_line, listed, unit_text, unit_line, line_most};
 
 use lookup::span_of;
 use model::Plan;
 use text::{put, put_bytes, put_decimal, put_text};
 
-// The most bytes that a line takes, a unit's of 256 bytes: `lineMost` of specs/Printed.antt.
+// The most bytes that a line takes, a unit's of 256 bytes: `line_most` of specs/Printed.antt.
 pub const LINE_MOST: usize = 1566;
 
 // A word and a number.
@@ -27,7 +27,7 @@ fn put_numbered(out: &mut [u8], at: usize, word: &[u8], number: usize) -> usize
 // The line of an answer or of a bad line.
 pub fn put_answer(out: &mut [u8], at: usize, word: &[u8], number: usize) -> usize
     requires { (at + length word.now + 7 ≤ length out.old) × (number < 100000) }
-    ensures { Wrote out.old at (answerLine word.now number) out.new result
+    ensures { Wrote out.old at (answer_line word.now number) out.new result
         × (result ≤ at + length word.now + 7) }
 {
     let place = put_numbered(out, at, word, number);
@@ -49,7 +49,7 @@ fn put_list(out: &mut [u8], at: usize, word: &[u8], bytes: &[u8]) -> usize
 fn put_parts(out: &mut [u8], at: usize, number: usize, log: &[u8], a: &[u8], b: &[u8]) -> usize
     requires { (at + 27 + 3 * length log.now + 3 * length a.now + 3 * length b.now ≤ length out.old)
         × (number < 100000) }
-    ensures { Wrote out.old at (unitText number log.now a.now b.now)
+    ensures { Wrote out.old at (unit_text number log.now a.now b.now)
         out.new result
         × (result ≤ at + 27 + 3 * length log.now + 3 * length a.now + 3 * length b.now) }
 {
@@ -62,10 +62,10 @@ fn put_parts(out: &mut [u8], at: usize, number: usize, log: &[u8], a: &[u8], b: 
 
 // The line of a unit of an accepted plan, read from the image. The filler of its pages is not shown.
 pub fn put_unit(out: &mut [u8], at: usize, plan: Plan, image: &[u8], unit: u16) -> usize
-    requires { (at + lineMost ≤ length out.old) × (startNumber plan ≡ 0) × (total plan ≤ length image.now)
+    requires { (at + line_most ≤ length out.old) × (start_number plan ≡ 0) × (total plan ≤ length image.now)
         × (unit < plan.count) }
-    ensures { Wrote out.old at (unitLine plan image.now unit) out.new result
-        × (result ≤ at + lineMost) }
+    ensures { Wrote out.old at (unit_line plan image.now unit) out.new result
+        × (result ≤ at + line_most) }
 {
     let span = span_of(plan, unit, image.len());
     let base = span.base as usize;

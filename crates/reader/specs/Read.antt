@@ -3,7 +3,7 @@ use Rattle.std.specs.Prelude.{ℕ, cond, List, ltb, length}
 use Rattle.script.specs.declared.Line.{Line}
 use Rattle.script.specs.declared.Line.TheVariants.{Is, Bad}
 use Rattle.script.specs.Line.{form_of}
-use Rattle.token.specs.Lines.{lineEnd, line_at}
+use Rattle.token.specs.Lines.{line_end, line_at}
 use Rattle.reader.specs.declared.Read.{Read}
 use Rattle.reader.specs.declared.Read.TheVariants as read
 
@@ -12,5 +12,5 @@ read_of (Is form) start end = read.Form form start end
 read_of Bad start end = read.Bad
 
 -- "one bracket form a line"; past the text's end there is none
-unfoldable pub readAt : List ℕ → ℕ → Read
-readAt text at = cond (ltb at (length text)) (read_of (form_of (line_at text at)) at (lineEnd text at)) read.Bad
+unfoldable pub read_at : List ℕ → ℕ → Read
+read_at text at = cond (ltb at (length text)) (read_of (form_of (line_at text at)) at (line_end text at)) read.Bad

@@ -1,6 +1,6 @@
 // The script reader: the lent text and the offset reached, in one record.
 ghost use Rattle.std.specs.Prelude.{◌≡◌};
-ghost use Rattle.reader.specs.Read.{readAt};
+ghost use Rattle.reader.specs.Read.{read_at};
 
 #[derive(Drop)]
 pub struct Reader<'a> {
@@ -21,7 +21,7 @@ pub enum Read {
 
 // The line at an offset of the text. This does the work of the functions below.
 pub fn read_at(text: &[u8], at: usize) -> Read
-    ensures { result ≡ readAt text.now at }
+    ensures { result ≡ read_at text.now at }
 {
     if text.len() <= at {
         return Read::Bad;
@@ -45,14 +45,14 @@ pub fn new<'a>(text: &'a [u8], at: usize) -> Reader<'a>
 }
 
 pub fn next<'a>(r: Reader<'a>) -> Read
-    ensures { result ≡ readAt r.entry.text.now r.entry.at }
+    ensures { result ≡ read_at r.entry.text.now r.entry.at }
 {
     read_at(r.text, r.at)
 }
 
 // The reader's next line, for callers that have the text and the offset.
 pub fn read_line(text: &[u8], from: usize) -> Read
-    ensures { result ≡ readAt text.now from }
+    ensures { result ≡ read_at text.now from }
 {
     next(new(text, from))
 }

@@ -10,50 +10,50 @@ use borrow.Author.Tests.{eq-eqb, ne_eqb}
 use Rattle.model.specs.declared.Plan.{Plan}
 use Rattle.model.specs.declared.Phase.{Phase}
 use Rattle.model.specs.Marker.{OK}
-use Rattle.model.specs.Layout.{marker, unitLength, base, get}
+use Rattle.model.specs.Layout.{marker, unit_length, base, get}
 use Rattle.model.specs.Refusals.{◌when◌, Refusal, first}
-use Rattle.model.proofs.RefusalLaws.{first-front, first-refused, first-passed}
-use Rattle.model.proofs.LayoutLaws.{base-bound}
-use Rattle.lookup.specs.Spans.{imageRow, Live}
+use Rattle.model.proofs.RefusalLaws.{first_front, first_refused, first_passed}
+use Rattle.model.proofs.LayoutLaws.{base_bound}
+use Rattle.lookup.specs.Spans.{image_row, Live}
 use Rattle.lookup.proofs.Laws.{room}
-use Rattle.search.proofs.Search.{marker-at}
+use Rattle.search.proofs.Search.{marker_at}
 
 -- ---- refusals 1 to 4, and 5 where the phase is wrong, for an image of n bytes; k is the code's number, t the test of the phase
 module _ (p : Plan) (payload : List ℕ) (phase : Phase) (n : ℕ) where
   abbrev numbered : Bool → ℕ
-  numbered wrong = first (imageRow p payload phase n ++ (5 when wrong ∷ []))
+  numbered wrong = first (image_row p payload phase n ++ (5 when wrong ∷ []))
 
   -- the test of the phase that the code makes is the row's
-  pub phase-tested : {t : Bool} (k : ℕ) (wrong : Bool) → k ≡ numbered wrong → wrong ≡ t → k ≡ numbered t
-  phase-tested k wrong e h = e ∙ ap numbered h
+  pub phase_tested : {t : Bool} (k : ℕ) (wrong : Bool) → k ≡ numbered wrong → wrong ≡ t → k ≡ numbered t
+  phase_tested k wrong e h = e ∙ ap numbered h
 
-  pub phase-refused : {t : Bool} (k : ℕ) (wrong : Bool) → k ≡ numbered wrong → wrong ≡ t → ¬ (k ≡ 0)
-      → (rest : List Refusal) → k ≡ first (imageRow p payload phase n ++ (5 when t ∷ rest))
-  phase-refused {t} k wrong e h z rest =
+  pub phase_refused : {t : Bool} (k : ℕ) (wrong : Bool) → k ≡ numbered wrong → wrong ≡ t → ¬ (k ≡ 0)
+      → (rest : List Refusal) → k ≡ first (image_row p payload phase n ++ (5 when t ∷ rest))
+  phase_refused {t} k wrong e h z rest =
       let is : k ≡ numbered t = e ∙ ap numbered h in
-      is ∙ sym (first-refused (imageRow p payload phase n ++ (5 when t ∷ [])) rest (λ q. z (is ∙ q)))
+      is ∙ sym (first_refused (image_row p payload phase n ++ (5 when t ∷ [])) rest (λ q. z (is ∙ q)))
 
-  pub phase-passed : {t : Bool} (k : ℕ) (wrong : Bool) → k ≡ numbered wrong → wrong ≡ t → k ≡ 0
-      → (rest : List Refusal) → first (imageRow p payload phase n ++ (5 when t ∷ rest)) ≡ first rest
-  phase-passed {t} k wrong e h z rest =
-      first-passed (imageRow p payload phase n ++ (5 when t ∷ [])) rest refl (sym (e ∙ ap numbered h) ∙ z)
+  pub phase_passed : {t : Bool} (k : ℕ) (wrong : Bool) → k ≡ numbered wrong → wrong ≡ t → k ≡ 0
+      → (rest : List Refusal) → first (image_row p payload phase n ++ (5 when t ∷ rest)) ≡ first rest
+  phase_passed {t} k wrong e h z rest =
+      first_passed (image_row p payload phase n ++ (5 when t ∷ [])) rest refl (sym (e ∙ ap numbered h) ∙ z)
 
 module _ (p : Plan) (payload : List ℕ) (phase : Phase) (image : List ℕ) where
   -- a device whose call is not refused is live
-  pub live : (k : ℕ) (rest : List Refusal) → k ≡ first (imageRow p payload phase (length image) ++ rest) → k ≡ 0
+  pub live : (k : ℕ) (rest : List Refusal) → k ≡ first (image_row p payload phase (length image) ++ rest) → k ≡ 0
       → Live p payload phase image
-  live k rest e z = first-front (imageRow p payload phase (length image)) rest (sym e ∙ z)
+  live k rest e z = first_front (image_row p payload phase (length image)) rest (sym e ∙ z)
 
   -- the whole unit lies in the image
-  pub unit-inside : Live p payload phase image → (u : ℕ) → u < p.count → base p u + unitLength p u ≤ length image
-  unit-inside e u h =
+  pub unit_inside : Live p payload phase image → (u : ℕ) → u < p.count → base p u + unit_length p u ≤ length image
+  unit_inside e u h =
       let r = room p payload phase image e in
-      omega (arith, base-bound p r.ok u p.count h, r.long)
+      omega (arith, base_bound p r.ok u p.count h, r.long)
 
 module _ (p : Plan) (image : List ℕ) where
   -- 8, as the code reads the marker: b is where the unit begins
-  pub marker-bad : (u b : ℕ) → b ≡ base p u → ¬ (get_or image b 0 ≡ OK) → not (eqb (get p image u marker) OK) ≡ true
-  marker-bad u b e h = rw (ne_eqb (get p image u marker) OK (λ q. h (marker-at p image u b e ∙ q)))
+  pub marker_bad : (u b : ℕ) → b ≡ base p u → ¬ (get_or image b 0 ≡ OK) → not (eqb (get p image u marker) OK) ≡ true
+  marker_bad u b e h = rw (ne_eqb (get p image u marker) OK (λ q. h (marker_at p image u b e ∙ q)))
 
-  pub marker-good : (u b : ℕ) → b ≡ base p u → get_or image b 0 ≡ OK → not (eqb (get p image u marker) OK) ≡ false
-  marker-good u b e h = rw (eq-eqb (get p image u marker) OK (sym (marker-at p image u b e) ∙ h))
+  pub marker_good : (u b : ℕ) → b ≡ base p u → get_or image b 0 ≡ OK → not (eqb (get p image u marker) OK) ≡ false
+  marker_good u b e h = rw (eq-eqb (get p image u marker) OK (sym (marker_at p image u b e) ∙ h))

@@ -1,12 +1,12 @@
 // The refusals: what a call answers by number, 0 or the first of document 01 and the tickets that applies. Inspect, which has the
 // plan's, 3 and 4 alone, asks `lookup`.
 ghost use Rattle.std.specs.Prelude.{◌≡◌, [], ◌∷◌, ◌++◌, not, ◌||◌, ◌≤◌, ◌<◌, eqb, length};
-ghost use Rattle.model.specs.Refusals.{isCold, isReady, ◌when◌, first, formatNumber, cutNumber, wakeNumber, stepNumber, readNumber, beginNumber};
+ghost use Rattle.model.specs.Refusals.{is_cold, is_ready, ◌when◌, first, format_number, cut_number, wake_number, step_number, read_number, begin_number};
 ghost use Rattle.model.specs.Marker.{OK};
 ghost use Rattle.model.specs.Layout.{marker, total, get};
 ghost use Rattle.model.specs.Calls.{job_of, view_of};
 ghost use Rattle.model.proofs.RefusalLaws.{PlanOk};
-ghost use Rattle.lookup.specs.Spans.{imageRow};
+ghost use Rattle.lookup.specs.Spans.{image_row};
 
 use group::is_record;
 use layout::{base_of, width_of};
@@ -21,7 +21,7 @@ use search::any_foreign;
 
 // Wrong phase for format and wake.
 fn not_cold(phase: Phase) -> bool
-    ensures { result ≡ not (isCold (job_of phase)) }
+    ensures { result ≡ not (is_cold (job_of phase)) }
 {
     match phase {
         Phase::Cold => false,
@@ -38,7 +38,7 @@ fn not_cold(phase: Phase) -> bool
 
 // Wrong phase for begin and read.
 pub fn not_ready(phase: Phase) -> bool
-    ensures { result ≡ not (isReady (job_of phase)) }
+    ensures { result ≡ not (is_ready (job_of phase)) }
 {
     match phase {
         Phase::Cold => true,
@@ -55,7 +55,7 @@ pub fn not_ready(phase: Phase) -> bool
 
 // Wrong phase for step: there is no store to make.
 fn idle(phase: Phase) -> bool
-    ensures { result ≡ (isCold (job_of phase) || isReady (job_of phase)) }
+    ensures { result ≡ (is_cold (job_of phase) || is_ready (job_of phase)) }
 {
     match phase {
         Phase::Cold => true,
@@ -72,7 +72,7 @@ fn idle(phase: Phase) -> bool
 
 // Refusals 1 to 5, for an image of `length` bytes.
 fn phase_number(plan: Plan, payload: &[u8; 256], phase: Phase, length: usize, wrong: bool) -> u16
-    ensures { result ≡ first (imageRow plan payload.now phase length ++ (5 when wrong ∷ [])) }
+    ensures { result ≡ first (image_row plan payload.now phase length ++ (5 when wrong ∷ [])) }
 {
     let number = device_number(plan, payload, phase, length);
     if number != 0 {
@@ -83,7 +83,7 @@ fn phase_number(plan: Plan, payload: &[u8; 256], phase: Phase, length: usize, wr
 
 // Refusals 1 to 4 of cut, and 18 for other than a page's number of bytes.
 pub fn cut_number(plan: Plan, payload: &[u8; 256], phase: Phase, image: &[u8], size: usize) -> u16
-    ensures { result ≡ cutNumber (view_of plan payload.now phase image.now) size }
+    ensures { result ≡ cut_number (view_of plan payload.now phase image.now) size }
 {
     let number = device_number(plan, payload, phase, image.len());
     if number != 0 {
@@ -97,21 +97,21 @@ pub fn cut_number(plan: Plan, payload: &[u8; 256], phase: Phase, image: &[u8], s
 
 // Refusals 1 to 5 of the calls that want a Ready device.
 pub fn ready_number(plan: Plan, payload: &[u8; 256], phase: Phase, length: usize) -> u16
-    ensures { result ≡ first (imageRow plan payload.now phase length ++ (5 when not (isReady (job_of phase)) ∷ [])) }
+    ensures { result ≡ first (image_row plan payload.now phase length ++ (5 when not (is_ready (job_of phase)) ∷ [])) }
 {
     phase_number(plan, payload, phase, length, not_ready(phase))
 }
 
 // Refusals 1 to 5 of format.
 pub fn format_number(plan: Plan, payload: &[u8; 256], phase: Phase, image: &[u8]) -> u16
-    ensures { result ≡ formatNumber (view_of plan payload.now phase image.now) }
+    ensures { result ≡ format_number (view_of plan payload.now phase image.now) }
 {
     phase_number(plan, payload, phase, image.len(), not_cold(phase))
 }
 
 // Refusals 1 to 5 of step.
 pub fn step_number(plan: Plan, payload: &[u8; 256], phase: Phase, image: &[u8]) -> u16
-    ensures { result ≡ stepNumber (view_of plan payload.now phase image.now) }
+    ensures { result ≡ step_number (view_of plan payload.now phase image.now) }
 {
     phase_number(plan, payload, phase, image.len(), idle(phase))
 }
@@ -138,7 +138,7 @@ pub fn begin_number(
     unit: u16,
     size: usize,
 ) -> u16
-    ensures { result ≡ beginNumber (view_of plan held.now phase image.now) role unit size }
+    ensures { result ≡ begin_number (view_of plan held.now phase image.now) role unit size }
 {
     let number = ready_number(plan, held, phase, image.len());
     if number != 0 {
@@ -168,7 +168,7 @@ pub fn read_number(
     role: Role,
     unit: u16,
 ) -> u16
-    ensures { result ≡ readNumber (view_of plan payload.now phase image.now) role unit }
+    ensures { result ≡ read_number (view_of plan payload.now phase image.now) role unit }
 {
     let number = ready_number(plan, payload, phase, image.len());
     if number != 0 {
@@ -185,7 +185,7 @@ pub fn read_number(
 
 // Refusals 1 to 5 of wake, which are format's, and 14.
 pub fn wake_number(plan: Plan, payload: &[u8; 256], phase: Phase, image: &[u8]) -> u16
-    ensures { result ≡ wakeNumber (view_of plan payload.now phase image.now) }
+    ensures { result ≡ wake_number (view_of plan payload.now phase image.now) }
 {
     let number = format_number(plan, payload, phase, image);
     if number != 0 {

@@ -1,10 +1,10 @@
 // The lists of calls that the power-cut theorem speaks of, given as bytes and made with the library's own calls; and what a console
 // lives through, with the theorem as its contract.
 ghost use Rattle.std.specs.Prelude.{◌≡◌, ℕ, ◌+◌, ◌<◌, length, get_or};
-ghost use Rattle.model.specs.Calls.{outcome, asStarted, start, format, wake};
-ghost use Rattle.model.specs.PowerCut.{call, run, closedBy, repair};
+ghost use Rattle.model.specs.Calls.{outcome, as_started, start, format, wake};
+ghost use Rattle.model.specs.PowerCut.{call, run, closed_by, repair};
 ghost use Rattle.store.specs.Modelled.{modelled, Gives};
-ghost use Rattle.recovery.specs.Encoding.{two, turnsIn, call_of, calls_of};
+ghost use Rattle.recovery.specs.Encoding.{two, turns_in, call_of, calls_of};
 ghost use Rattle.recovery.specs.Outage.{Fits, closed, Restored};
 
 use amount::amount_of;
@@ -27,7 +27,7 @@ pub fn number_at(bytes: &[u8], at: usize) -> u16
 
 // The turns of a ride: the first eight bytes, 0 if there are fewer.
 fn turns_of(bytes: &[u8]) -> u64
-    ensures { result ≡ turnsIn bytes.now }
+    ensures { result ≡ turns_in bytes.now }
 {
     if bytes.len() < 8 {
         return 0;
@@ -100,7 +100,7 @@ pub fn replay(device: Device, image: &mut [u8], calls: &[u8]) -> Answer
 // A console up to a power cut that leaves these bytes in a page: a formatted device and any calls. The device is lost with the power.
 fn until_cut(plan: Plan, image: &mut [u8], calls: &[u8], page: &[u8])
     ensures { image.new
-        ≡ (run (closedBy page.now (calls_of calls.now)) (format (start plan).device image.old)).image }
+        ≡ (run (closed_by page.now (calls_of calls.now)) (format (start plan).device image.old)).image }
 {
     let started = Device::start(plan);
     let formatted = started.device.format(image);
@@ -113,8 +113,8 @@ const ENOUGH: u16 = 65535;
 
 // The console after it: a start, a wake, and steps until one is refused.
 fn come_back(plan: Plan, image: &mut [u8]) -> Answer
-    ensures { start plan ≡ record { number = 0; device = asStarted plan } → (wake (asStarted plan) image.old).number ≡ 0
-        → Gives result image.new (run (repair 65535) (outcome 0 (asStarted plan) image.old)) }
+    ensures { start plan ≡ record { number = 0; device = as_started plan } → (wake (as_started plan) image.old).number ≡ 0
+        → Gives result image.new (run (repair 65535) (outcome 0 (as_started plan) image.old)) }
 {
     let started = Device::start(plan);
     let woken = started.device.wake(image);

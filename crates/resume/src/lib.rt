@@ -1,7 +1,7 @@
 // Where a repair goes on: a group record that stands once every marker is OK.
 ghost use Rattle.std.specs.Prelude.{◌≡◌, ◌≤◌, length};
 ghost use Rattle.model.specs.Layout.{total};
-ghost use Rattle.model.specs.Calls.{recordIn, resumed, reloaded};
+ghost use Rattle.model.specs.Calls.{record_in, resumed, reloaded};
 ghost use Rattle.model.proofs.RefusalLaws.{PlanOk};
 
 use format::fill;
@@ -13,7 +13,7 @@ use refusal::not_ready;
 // Copy A of the last unit, as a part of the image.
 fn record_in(plan: Plan, image: &[u8]) -> &[u8]
     requires { PlanOk plan × (total plan ≤ length image.now) }
-    ensures { result.now ≡ recordIn plan image.now }
+    ensures { result.now ≡ record_in plan image.now }
 {
     let span = span_of(plan, last_of(plan), image.len());
     let start = (span.base + span.a) as usize;

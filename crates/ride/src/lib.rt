@@ -1,8 +1,8 @@
 // Rides: the turns of a ride are added to the total that unit 0 holds. What refuses a ride and a total, and what a ride writes.
 ghost use Rattle.std.specs.Prelude.{◌≡◌, ◌+◌, ◌≤◌, length, take, drop};
-ghost use Rattle.model.specs.Layout.{copyA, copy_of};
+ghost use Rattle.model.specs.Layout.{copy_a, copy_of};
 ghost use Rattle.model.specs.Turns.{amount, plus};
-ghost use Rattle.model.specs.Refusals.{rideNumber, totalNumber};
+ghost use Rattle.model.specs.Refusals.{ride_number, total_number};
 ghost use Rattle.model.specs.Calls.{view_of, padded};
 
 use amount::{amount_of, bytes_of};
@@ -19,7 +19,7 @@ const MOST: u64 = 18446744073709551615;
 
 // Refusals 1 to 5, 16, 20, 8 and 15 of a ride, in this order.
 pub fn ride_number(plan: Plan, payload: &[u8; 256], phase: Phase, image: &[u8], turns: u64) -> u16
-    ensures { result ≡ rideNumber (view_of plan payload.now phase image.now) (copy_of plan image.now 0 copyA) turns }
+    ensures { result ≡ ride_number (view_of plan payload.now phase image.now) (copy_of plan image.now 0 copy_a) turns }
 {
     let number = ready_number(plan, payload, phase, image.len());
     if number != 0 {
@@ -62,7 +62,7 @@ pub fn total_number(
     role: Role,
     unit: u16,
 ) -> u16
-    ensures { result ≡ totalNumber (view_of plan payload.now phase image.now) role unit }
+    ensures { result ≡ total_number (view_of plan payload.now phase image.now) role unit }
 {
     let number = read_number(plan, payload, phase, image, role, unit);
     if number != 0 {

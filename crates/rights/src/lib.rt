@@ -1,6 +1,6 @@
 // What a role may do with a unit: the plan's table of rights, looked up. What is not granted is refused.
 ghost use Rattle.std.specs.Prelude.{◌≡◌};
-ghost use Rattle.model.specs.Rights.{line, right, maySee, may_write, serviceRights};
+ghost use Rattle.model.specs.Rights.{line, right, may_see, may_write, service_rights};
 
 use model::{NOTHING, Rights, Role, SEE, SEE_AND_WRITE};
 
@@ -32,7 +32,7 @@ pub fn may_write(rights: Rights, role: Role, unit: u16) -> bool
 }
 
 pub fn may_see(rights: Rights, role: Role, unit: u16) -> bool
-    ensures { result ≡ maySee rights role unit }
+    ensures { result ≡ may_see rights role unit }
 {
     let right = right_of(rights, role, unit);
     (right == SEE) | (right == SEE_AND_WRITE)
@@ -40,7 +40,7 @@ pub fn may_see(rights: Rights, role: Role, unit: u16) -> bool
 
 // A table for the workshop: every right for service, none for anyone else.
 pub fn service_rights() -> Rights
-    ensures { result ≡ serviceRights }
+    ensures { result ≡ service_rights }
 {
     Rights {
         rider: [NOTHING; 8],

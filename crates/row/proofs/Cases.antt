@@ -1,20 +1,20 @@
 -- The rows of specs/Cases.antt, computed.
 use mathlib.Core.Path.{refl}
-use Rattle.row.specs.Row.{inRule}
+use Rattle.row.specs.Row.{in_rule}
 use Rattle.row.specs.Cases.{EverySmall, EveryRising, EveryAbove, EveryFirst}
 
-pub every-small : EverySmall
-unfolding inRule
-every-small = refl
+pub every_small : EverySmall
+unfolding in_rule
+every_small = refl
 
-pub every-rising : EveryRising
-unfolding inRule
-every-rising = refl
+pub every_rising : EveryRising
+unfolding in_rule
+every_rising = refl
 
-pub every-above : EveryAbove
-unfolding inRule
-every-above = refl
+pub every_above : EveryAbove
+unfolding in_rule
+every_above = refl
 
 pub every_first : EveryFirst
-unfolding inRule
+unfolding in_rule
 every_first = refl

@@ -10,13 +10,13 @@ use lib.ListN.{length, take, drop, get_or, set}
 use lib.Seq.{take-suc-set, append_snoc, drop-cons, drop-drop, drop-nil, get_or-take, get_or-drop, length-take-le}
 use borrow.Author.Tests.{eq-eqb, ne_eqb, leb-true}
 use Rattle.model.proofs.Compare.{equal, differ, same}
-use Rattle.model.proofs.RefusalLaws.{and-true}
+use Rattle.model.proofs.RefusalLaws.{and_true}
 use Rattle.list.specs.declared.Kind.TheVariants.{Entry}
 use Rattle.token.specs.declared.Item.{Item}
-use Rattle.token.specs.Token.{eatAt, entry_at}
+use Rattle.token.specs.Token.{eat_at, entry_at}
 use Rattle.list.specs.List.{item_at}
-use Rattle.list.specs.Items.{valuesAt}
-use Rattle.row.specs.Row.{higher, inRule, small, rowBelow}
+use Rattle.list.specs.Items.{values_at}
+use Rattle.row.specs.Row.{higher, in_rule, small, row_below}
 
 -- the code's test of one entry of bin j, after `before` on its line and after i lines
 abbrev pub tested : ℕ → List ℕ → ℕ → ℕ → ℕ → Bool
@@ -29,40 +29,40 @@ module _ (i : ℕ) (scratch first : List ℕ) (long : 64 ≤ length first) (j x 
       let n : j + 0 ≡ j = omega arith in
       rw n at (sym (get_or-drop j first 0 0) ∙ ap (λ (xs : List ℕ). get_or xs 0 0) (sym is) ∙ get_or-drop j scratch 0 0)
 
-  lower-at : drop j (take 64 first) ≡ get_or scratch j 0 ∷ drop (suc j) (take 64 first)
-  lower-at =
+  lower_at : drop j (take 64 first) ≡ get_or scratch j 0 ∷ drop (suc j) (take 64 first)
+  lower_at =
       drop-cons (take 64 first) j 0 (omega (arith, length-take-le 64 first long))
       ∙ ap (λ (y : ℕ). y ∷ drop (suc j) (take 64 first)) (get_or-take 64 first j 0 high ∙ held)
 
-  above_at : higher (drop j (rowBelow i first)) x ≡ (eqb i 0 || ltb (get_or scratch j 0) x)
+  above_at : higher (drop j (row_below i first)) x ≡ (eqb i 0 || ltb (get_or scratch j 0) x)
   above_at =
       elim (same i 0) [
         | equal z ↦ rw (eq-eqb i 0 z, drop-nil j)
-        | differ h ↦ rw (ne_eqb i 0 h, lower-at)
+        | differ h ↦ rw (ne_eqb i 0 h, lower_at)
       ]
 
   -- what the code found: `good`
   module _ (before : ℕ) (row : List ℕ) (good : Bool) (e : good ≡ tested i scratch j before x) where
-    pub rule-goes-on : good ≡ true
-        → inRule before (drop j (rowBelow i first)) (x ∷ row) ≡ inRule x (drop (j + 1) (rowBelow i first)) row
-    unfolding inRule
-    rule-goes-on f = rw (above_at, sym e ∙ f, drop-drop 1 j (rowBelow i first))
+    pub rule_goes_on : good ≡ true
+        → in_rule before (drop j (row_below i first)) (x ∷ row) ≡ in_rule x (drop (j + 1) (row_below i first)) row
+    unfolding in_rule
+    rule_goes_on f = rw (above_at, sym e ∙ f, drop-drop 1 j (row_below i first))
 
-    pub rule-ends : good ≡ false → inRule before (drop j (rowBelow i first)) (x ∷ row) ≡ false
-    unfolding inRule
-    rule-ends f = rw (above_at, sym e ∙ f)
+    pub rule_ends : good ≡ false → in_rule before (drop j (row_below i first)) (x ∷ row) ≡ false
+    unfolding in_rule
+    rule_ends f = rw (above_at, sym e ∙ f)
 
 -- ---- the entries that are left, and the scratch
-pub values-on : (line : List ℕ) (p end at : ℕ) (item : Item) (q : ℕ) → at < end → item ≡ entry_at line p → q ≡ eatAt line item.next 32
-    → valuesAt Entry line p (end - at) ≡ item.value ∷ valuesAt Entry line q (end - (at + 1))
-unfolding valuesAt item_at
-values-on line p end at item q h e f =
+pub values_on : (line : List ℕ) (p end at : ℕ) (item : Item) (q : ℕ) → at < end → item ≡ entry_at line p → q ≡ eat_at line item.next 32
+    → values_at Entry line p (end - at) ≡ item.value ∷ values_at Entry line q (end - (at + 1))
+unfolding values_at item_at
+values_on line p end at item q h e f =
     let n : end - at ≡ suc (end - (at + 1)) = omega arith in
     rw (n, f, e)
 
-pub values-end : (line : List ℕ) (p end at : ℕ) → end ≤ at → valuesAt Entry line p (end - at) ≡ []
-unfolding valuesAt
-values-end line p end at h = let n : end - at ≡ 0 = omega arith in rw n
+pub values_end : (line : List ℕ) (p end at : ℕ) → end ≤ at → values_at Entry line p (end - at) ≡ []
+unfolding values_at
+values_end line p end at h = let n : end - at ≡ 0 = omega arith in rw n
 
 pub stored_on : (scratch whole rest : List ℕ) (at x : ℕ) → at < length scratch → take at scratch ++ x ∷ rest ≡ whole
     → take (at + 1) (set scratch at x) ++ rest ≡ whole
@@ -76,23 +76,23 @@ both : (x y : Bool) → x && y ≡ true → x ≡ true
 both true y e = refl
 both false y e = e
 
-pub tested-small : (i : ℕ) (scratch : List ℕ) (j before x : ℕ) (good : Bool) → good ≡ tested i scratch j before x → good ≡ true → x ≤ 4095
-tested-small i scratch j before x good e f =
+pub tested_small : (i : ℕ) (scratch : List ℕ) (j before x : ℕ) (good : Bool) → good ≡ tested i scratch j before x → good ≡ true → x ≤ 4095
+tested_small i scratch j before x good e f =
     leb-true x 4095 (both (leb x 4095) (leb before x) (both (leb x 4095 && leb before x) (eqb i 0 || ltb (get_or scratch j 0) x) (sym e ∙ f)))
 
 -- ---- a row known to be small
-pub small-first : (x : ℕ) (row : List ℕ) → small (x ∷ row) ≡ true → x ≤ 4095
+pub small_first : (x : ℕ) (row : List ℕ) → small (x ∷ row) ≡ true → x ≤ 4095
 unfolding small
-small-first x row e = leb-true x 4095 (both (leb x 4095) (small row) e)
+small_first x row e = leb-true x 4095 (both (leb x 4095) (small row) e)
 
-pub small-rest : (x : ℕ) (row : List ℕ) → small (x ∷ row) ≡ true → small row ≡ true
+pub small_rest : (x : ℕ) (row : List ℕ) → small (x ∷ row) ≡ true → small row ≡ true
 unfolding small
-small-rest x row e = (and-true (leb x 4095) (small row) e).1
+small_rest x row e = (and_true (leb x 4095) (small row) e).1
 
-pub rule-small : (before : ℕ) (lower row : List ℕ) → inRule before lower row ≡ true → small row ≡ true
-unfolding inRule small
-rule-small before lower [] e = refl
-rule-small before lower (x ∷ row) e =
-    let a = and-true (leb x 4095 && leb before x && higher lower x) (inRule x (drop 1 lower) row) e in
+pub rule_small : (before : ℕ) (lower row : List ℕ) → in_rule before lower row ≡ true → small row ≡ true
+unfolding in_rule small
+rule_small before lower [] e = refl
+rule_small before lower (x ∷ row) e =
+    let a = and_true (leb x 4095 && leb before x && higher lower x) (in_rule x (drop 1 lower) row) e in
     let first = both (leb x 4095) (leb before x) (both (leb x 4095 && leb before x) (higher lower x) a.0) in
-    rw first (rule-small x (drop 1 lower) row a.1)
+    rw first (rule_small x (drop 1 lower) row a.1)

@@ -1,7 +1,7 @@
 -- Rows of entries and whether they are in rule, some under each sentence of Ticket 1, computed from the definition in
 -- proofs/Cases.antt.
 use Rattle.std.specs.Prelude.{ℕ, ◌≡◌, Bool, true, false, List, [], ◌∷◌, map}
-use Rattle.row.specs.Row.{inRule}
+use Rattle.row.specs.Row.{in_rule}
 
 -- the level below a row, the row, and whether it is in rule
 abbrev Ruled : Type 0
@@ -9,7 +9,7 @@ Ruled = List ℕ × List ℕ × Bool
 
 abbrev Every : List Ruled → Type 0
 Every rows =
-    map {A = Ruled} {B = Bool} (λ row. inRule 0 row.0 row.1) rows ≡ map {A = Ruled} {B = Bool} (λ row. row.2) rows
+    map {A = Ruled} {B = Bool} (λ row. in_rule 0 row.0 row.1) rows ≡ map {A = Ruled} {B = Bool} (λ row. row.2) rows
 
 -- "Every entry is at most 4,095"
 abbrev pub EverySmall : Type 0

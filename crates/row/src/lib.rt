@@ -3,10 +3,10 @@
 // The contracts are equations with specs/Row.antt.
 ghost use Rattle.std.specs.Prelude.{◌≡◌, true, ◌||◌, ◌&&◌, ◌++◌, ℕ, ◌+◌, ◌*◌, ◌<◌, ◌≤◌, eqb, ltb, leb, length, take, get_or};
 ghost use Rattle.token.specs.Token.{lost};
-ghost use Rattle.token.specs.Lines.{lineEnd, line_at};
+ghost use Rattle.token.specs.Lines.{line_end, line_at};
 ghost use Rattle.list.specs.declared.Kind.TheVariants.{Entry};
-ghost use Rattle.list.specs.Items.{valuesAt};
-ghost use Rattle.row.specs.Row.{row_at, row_of, inRule, small, rowBelow, lineNumber};
+ghost use Rattle.list.specs.Items.{values_at};
+ghost use Rattle.row.specs.Row.{row_at, row_of, in_rule, small, row_below, line_number};
 
 use list::Kind;
 use model::refusals::{BAD_ENTRY, BAD_LINE};
@@ -56,8 +56,8 @@ fn in_rule(scratch: &[u16], i: usize, j: usize, before: usize, value: usize) -> 
 // was held against, since no other bin is held against that one.
 fn row_check(line: &[u8], from: usize, scratch: &mut [u16], i: usize) -> bool
     requires { 64 ≤ length scratch.old }
-    ensures { (result ≡ inRule 0 (rowBelow i scratch.old) (valuesAt Entry line.now from 64))
-        × (result ≡ true → take 64 scratch.new ≡ valuesAt Entry line.now from 64)
+    ensures { (result ≡ in_rule 0 (row_below i scratch.old) (values_at Entry line.now from 64))
+        × (result ≡ true → take 64 scratch.new ≡ values_at Entry line.now from 64)
         × (length scratch.new ≡ length scratch.old) }
 {
     let mut j: usize = 0;
@@ -88,8 +88,8 @@ pub struct Past {
 // Judges the line at an offset of the text, after i others. The scratch holds the row one level lower, and then that of a good line.
 pub fn line_check(text: &[u8], at: usize, scratch: &mut [u16], i: usize) -> Past
     requires { (i < 20) × (64 ≤ length scratch.old) }
-    ensures { (result.number ≡ lineNumber i text.now at (rowBelow i scratch.old))
-        × (result.number ≡ 0 → (result.at ≡ lineEnd text.now at + 1)
+    ensures { (result.number ≡ line_number i text.now at (row_below i scratch.old))
+        × (result.number ≡ 0 → (result.at ≡ line_end text.now at + 1)
         × (take 64 scratch.new ≡ row_of (i + 1) (line_at text.now at)))
         × (length scratch.new ≡ length scratch.old) }
 {
@@ -130,9 +130,9 @@ fn entries_at(line: &[u8]) -> usize
 
 // Reads a line's entries, known to be small, into the table after those of i lines.
 fn row_into(line: &[u8], from: usize, table: &mut [u16], i: usize)
-    requires { (i < 20) × (1280 ≤ length table.old) × (small (valuesAt Entry line.now from 64) ≡ true) }
+    requires { (i < 20) × (1280 ≤ length table.old) × (small (values_at Entry line.now from 64) ≡ true) }
     ensures { (take (64 * i + 64) table.new
-        ≡ take (64 * i) table.old ++ valuesAt Entry line.now from 64)
+        ≡ take (64 * i) table.old ++ values_at Entry line.now from 64)
         × (length table.new ≡ length table.old) }
 {
     let mut at = 64 * i;
@@ -148,8 +148,8 @@ fn row_into(line: &[u8], from: usize, table: &mut [u16], i: usize)
 
 // Reads the line at an offset of the text, known to be good, into the table after i others. The offset past it.
 pub fn line_into(text: &[u8], at: usize, table: &mut [u16], i: usize) -> usize
-    requires { (i < 20) × (1280 ≤ length table.old) × (lineNumber i text.now at (take (64 * i) table.old) ≡ 0) }
-    ensures { (result ≡ lineEnd text.now at + 1) × (take (64 * i + 64) table.new
+    requires { (i < 20) × (1280 ≤ length table.old) × (line_number i text.now at (take (64 * i) table.old) ≡ 0) }
+    ensures { (result ≡ line_end text.now at + 1) × (take (64 * i + 64) table.new
         ≡ take (64 * i) table.old ++ row_of (i + 1) (line_at text.now at))
         × (length table.new ≡ length table.old) }
 {

@@ -5,11 +5,11 @@ use Rattle.list.specs.declared.Kind.TheVariants.{Byte}
 use Rattle.script.specs.declared.Line.{Line}
 use Rattle.script.specs.declared.Line.TheVariants.{Is, Bad}
 use Rattle.token.specs.Ascii.{ascii}
-use Rattle.token.specs.Token.{eatAt, word_at, digitOf, digitAt, extendAt, hexAt, more_at, atMost, entry_at, number_at}
-use Rattle.list.specs.List.{item_at, itemsAt, listAt}
-use Rattle.script.specs.Line.{closedAt, ◌or◌, pagedAt, plan_of, writeOf, cutListOf, step_of, cut_of, bareOf, shortFormOf, form_of}
-use Rattle.list.specs.Items.{valuesAt}
-use Rattle.script.specs.Widths.{widthsAt}
+use Rattle.token.specs.Token.{eat_at, word_at, digit_of, digit_at, extend_at, hex_at, more_at, at_most, entry_at, number_at}
+use Rattle.list.specs.List.{item_at, items_at, list_at}
+use Rattle.script.specs.Line.{closed_at, ◌or◌, paged_at, plan_of, write_of, cut_list_of, step_of, cut_of, bare_of, short_form_of, form_of}
+use Rattle.list.specs.Items.{values_at}
+use Rattle.script.specs.Widths.{widths_at}
 
 -- a line, and what it says; a list is told by its place and count. Lists of 256 and of 257 bytes are among the stored scripts
 -- (crates/vectors/data, write-256 and write-257).
@@ -90,14 +90,14 @@ rows =
     ∷ []
 
 pub lines : map (λ (row : List ℕ × Line). form_of row.0) rows ≡ map (λ (row : List ℕ × Line). row.1) rows
-unfolding rows form_of shortFormOf bareOf cut_of step_of cutListOf writeOf plan_of pagedAt ◌or◌ closedAt listAt itemsAt item_at entry_at number_at atMost more_at hexAt extendAt digitAt digitOf word_at eatAt
+unfolding rows form_of short_form_of bare_of cut_of step_of cut_list_of write_of plan_of paged_at ◌or◌ closed_at list_at items_at item_at entry_at number_at at_most more_at hex_at extend_at digit_at digit_of word_at eat_at
 lines = refl
 
 -- the values of a list, bytes and widths
-pub values : (valuesAt Byte (ascii "(write 0 (0a ff))") 10 2 ≡ 10 ∷ 255 ∷ [])
-    × (valuesAt Byte (ascii "(cut (0a ff))") 6 2 ≡ 10 ∷ 255 ∷ [])
-    × (valuesAt Byte (ascii "(cut 0a)") 5 1 ≡ 10 ∷ [])
-    × (widthsAt (ascii "(plan (2 1))") 7 2 ≡ 2 ∷ 1 ∷ 0 ∷ 0 ∷ 0 ∷ 0 ∷ 0 ∷ 0 ∷ [])
-    × (widthsAt (ascii "(plan (1 2 3 4 5 6 7 8 9))") 7 9 ≡ 1 ∷ 2 ∷ 3 ∷ 4 ∷ 5 ∷ 6 ∷ 7 ∷ 8 ∷ [])
-unfolding valuesAt widthsAt item_at entry_at number_at atMost more_at hexAt extendAt digitAt digitOf eatAt
+pub values : (values_at Byte (ascii "(write 0 (0a ff))") 10 2 ≡ 10 ∷ 255 ∷ [])
+    × (values_at Byte (ascii "(cut (0a ff))") 6 2 ≡ 10 ∷ 255 ∷ [])
+    × (values_at Byte (ascii "(cut 0a)") 5 1 ≡ 10 ∷ [])
+    × (widths_at (ascii "(plan (2 1))") 7 2 ≡ 2 ∷ 1 ∷ 0 ∷ 0 ∷ 0 ∷ 0 ∷ 0 ∷ 0 ∷ [])
+    × (widths_at (ascii "(plan (1 2 3 4 5 6 7 8 9))") 7 9 ≡ 1 ∷ 2 ∷ 3 ∷ 4 ∷ 5 ∷ 6 ∷ 7 ∷ 8 ∷ [])
+unfolding values_at widths_at item_at entry_at number_at at_most more_at hex_at extend_at digit_at digit_of eat_at
 values = (refl, refl, refl, refl, refl)

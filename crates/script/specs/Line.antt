@@ -5,16 +5,16 @@ use Rattle.token.specs.Ascii.{ascii}
 use Rattle.list.specs.declared.Kind.TheVariants.{Byte, Number}
 use Rattle.token.specs.declared.Item.{Item}
 use Rattle.list.specs.declared.Items.{Items}
-use Rattle.token.specs.Token.{eatAt, word_at, hexAt, number_at}
-use Rattle.list.specs.List.{listAt}
+use Rattle.token.specs.Token.{eat_at, word_at, hex_at, number_at}
+use Rattle.list.specs.List.{list_at}
 use Rattle.script.specs.declared.Form.{Form}
 use Rattle.script.specs.declared.Form.TheVariants.{Plan, Write, Step, Cut, Wake, Show}
 use Rattle.script.specs.declared.Line.{Line}
 use Rattle.script.specs.declared.Line.TheVariants.{Is, Bad}
 
 -- "one bracket form a line": the form, if its `)` stands here and ends the line
-unfoldable pub closedAt : List ℕ → ℕ → Form → Line
-closedAt line at form = cond (eqb (eatAt line at (code ")")) (length line)) (Is form) Bad
+unfoldable pub closed_at : List ℕ → ℕ → Form → Line
+closed_at line at form = cond (eqb (eat_at line at (code ")")) (length line)) (Is form) Bad
 
 infixr 20 ◌or◌
 -- the first line that is a form
@@ -23,53 +23,53 @@ Is form or other = Is form
 Bad or other = other
 
 -- Ticket 9: "`(plan (2 1) (page 4))`, page a number like W", from the place past the widths on
-unfoldable pub pagedAt : List ℕ → ℕ → ℕ → ℕ → Line
-pagedAt line past at count =
+unfoldable pub paged_at : List ℕ → ℕ → ℕ → ℕ → Line
+paged_at line past at count =
     let page : Item = number_at line (word_at line past (ascii " (page ")) in
-    closedAt line (eatAt line page.next (code ")")) (Plan at count page.value)
+    closed_at line (eat_at line page.next (code ")")) (Plan at count page.value)
 
 -- "`(plan (W ..))` with 0 to 16 widths"; Ticket 9: "No page means p = 1"
 unfoldable pub plan_of : List ℕ → Line
 plan_of line =
     let at : ℕ = word_at line 0 (ascii "(plan (") in
-    let widths : Items = listAt Number line at 16 in
-    closedAt line widths.next (Plan at widths.count 1) or pagedAt line widths.next at widths.count
+    let widths : Items = list_at Number line at 16 in
+    closed_at line widths.next (Plan at widths.count 1) or paged_at line widths.next at widths.count
 
 -- "`(write U (HH ..))` with 0 to 256 bytes"
-unfoldable pub writeOf : List ℕ → Line
-writeOf line =
+unfoldable pub write_of : List ℕ → Line
+write_of line =
     let unit : Item = number_at line (word_at line 0 (ascii "(write ")) in
     let at : ℕ = word_at line unit.next (ascii " (") in
-    let bytes : Items = listAt Byte line at 256 in
-    closedAt line bytes.next (Write unit.value at bytes.count)
+    let bytes : Items = list_at Byte line at 256 in
+    closed_at line bytes.next (Write unit.value at bytes.count)
 
 -- Ticket 9: "`(cut (HH ..))` with 0 to 16 bytes"
-unfoldable pub cutListOf : List ℕ → Line
-cutListOf line =
+unfoldable pub cut_list_of : List ℕ → Line
+cut_list_of line =
     let at : ℕ = word_at line 0 (ascii "(cut (") in
-    let bytes : Items = listAt Byte line at 16 in
-    closedAt line bytes.next (Cut at bytes.count)
+    let bytes : Items = list_at Byte line at 16 in
+    closed_at line bytes.next (Cut at bytes.count)
 
 -- "`(step N)`, N 1 to 65535"
 unfoldable pub step_of : List ℕ → Line
 step_of line =
     let count : Item = number_at line (word_at line 0 (ascii "(step ")) in
-    cond (eqb count.value 0) Bad (closedAt line count.next (Step count.value))
+    cond (eqb count.value 0) Bad (closed_at line count.next (Step count.value))
 
 -- "`(cut HH)`"; Ticket 9: it "is a cut of one byte", which stands where a list's first would
 unfoldable pub cut_of : List ℕ → Line
 cut_of line =
     let at : ℕ = word_at line 0 (ascii "(cut ") in
-    closedAt line (hexAt line at).next (Cut at 1)
+    closed_at line (hex_at line at).next (Cut at 1)
 
 -- "`(wake)`; `(show)`"
-unfoldable pub bareOf : List ℕ → List ℕ → Form → Line
-bareOf line word form = closedAt line (word_at line 0 word) form
+unfoldable pub bare_of : List ℕ → List ℕ → Form → Line
+bare_of line word form = closed_at line (word_at line 0 word) form
 
 -- the forms without a list
-unfoldable pub shortFormOf : List ℕ → Line
-shortFormOf line = step_of line or cut_of line or bareOf line (ascii "(wake") Wake or bareOf line (ascii "(show") Show
+unfoldable pub short_form_of : List ℕ → Line
+short_form_of line = step_of line or cut_of line or bare_of line (ascii "(wake") Wake or bare_of line (ascii "(show") Show
 
 -- "Any line that isn't one of these forms prints `bad`"
 unfoldable pub form_of : List ℕ → Line
-form_of line = plan_of line or writeOf line or cutListOf line or shortFormOf line
+form_of line = plan_of line or write_of line or cut_list_of line or short_form_of line

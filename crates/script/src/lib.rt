@@ -2,9 +2,9 @@
 ghost use Rattle.std.specs.Prelude.{◌≡◌};
 ghost use Rattle.std.proofs.lemmas.List.Edits.{sets};
 ghost use Rattle.list.specs.declared.Kind.TheVariants.{Byte};
-ghost use Rattle.list.specs.Items.{valuesAt};
-ghost use Rattle.script.specs.Line.{closedAt, ◌or◌, pagedAt, plan_of, writeOf, cutListOf, step_of, cut_of, bareOf, shortFormOf, form_of};
-ghost use Rattle.script.specs.Widths.{widthsAt};
+ghost use Rattle.list.specs.Items.{values_at};
+ghost use Rattle.script.specs.Line.{closed_at, ◌or◌, paged_at, plan_of, write_of, cut_list_of, step_of, cut_of, bare_of, short_form_of, form_of};
+ghost use Rattle.script.specs.Widths.{widths_at};
 
 use list::{Kind, list_at};
 use token::{eat, hex, number, word};
@@ -29,7 +29,7 @@ pub enum Line {
 
 // The form, if its bracket stands here and ends the line.
 fn closed(line: &[u8], at: usize, form: Form) -> Line
-    ensures { result ≡ closedAt line.now at form }
+    ensures { result ≡ closed_at line.now at form }
 {
     let end = eat(line, at, b')');
     if end == line.len() {
@@ -51,7 +51,7 @@ fn or(first: Line, other: Line) -> Line
 
 // A plan's ` (page P)` and the bracket of the form, past the widths.
 fn paged(line: &[u8], past: usize, at: usize, count: usize) -> Line
-    ensures { result ≡ pagedAt line.now past at count }
+    ensures { result ≡ paged_at line.now past at count }
 {
     let page = number(line, word(line, past, b" (page "));
     let end = eat(line, page.next, b')');
@@ -82,7 +82,7 @@ fn plan(line: &[u8]) -> Line
 
 // `(write U (HH ..))`, 0 to 256 bytes.
 fn write(line: &[u8]) -> Line
-    ensures { result ≡ writeOf line.now }
+    ensures { result ≡ write_of line.now }
 {
     let unit = number(line, word(line, 0, b"(write "));
     let at = word(line, unit.next, b" (");
@@ -100,7 +100,7 @@ fn write(line: &[u8]) -> Line
 
 // `(cut (HH ..))`, 0 to 16 bytes.
 fn cut_list(line: &[u8]) -> Line
-    ensures { result ≡ cutListOf line.now }
+    ensures { result ≡ cut_list_of line.now }
 {
     let at = word(line, 0, b"(cut (");
     let bytes = list_at(Kind::Byte, line, at, 16);
@@ -136,14 +136,14 @@ fn cut(line: &[u8]) -> Line
 
 // `(wake)`, `(show)`: a form that is its word alone.
 fn bare(line: &[u8], name: &[u8], form: Form) -> Line
-    ensures { result ≡ bareOf line.now name.now form }
+    ensures { result ≡ bare_of line.now name.now form }
 {
     closed(line, word(line, 0, name), form)
 }
 
 // The forms without a list.
 fn short_form_of(line: &[u8]) -> Line
-    ensures { result ≡ shortFormOf line.now }
+    ensures { result ≡ short_form_of line.now }
 {
     let wake = bare(line, b"(wake", Form::Wake);
     let show = bare(line, b"(show", Form::Show);
@@ -162,7 +162,7 @@ pub fn form_of(line: &[u8]) -> Line
 
 // The bytes of a list, into the front of out, as far as out reaches.
 pub fn bytes_into(line: &[u8], at: usize, count: usize, out: &mut [u8])
-    ensures { out.new ≡ sets out.old 0 (valuesAt Byte line.now at count) }
+    ensures { out.new ≡ sets out.old 0 (values_at Byte line.now at count) }
 {
     let mut p = at;
     let mut i: usize = 0;
@@ -179,7 +179,7 @@ pub fn bytes_into(line: &[u8], at: usize, count: usize, out: &mut [u8])
 
 // The first eight numbers of a list, zeros past them.
 pub fn widths_at(line: &[u8], at: usize, count: usize) -> [u16; 8]
-    ensures { result ≡ widthsAt line.now at count }
+    ensures { result ≡ widths_at line.now at count }
 {
     let mut widths = [0u16; 8];
     let mut p = at;

@@ -5,10 +5,10 @@ use Rattle.search.specs.declared.Found.{Found}
 use Rattle.search.specs.declared.Found.TheVariants.{At, Nothing}
 use Rattle.model.specs.declared.Plan.{Plan}
 use Rattle.model.specs.Layout.{marker, get}
-use Rattle.model.specs.Calls.{lowestBad}
+use Rattle.model.specs.Calls.{lowest_bad}
 
-abbrev pub lowestFrom : Plan → List ℕ → ℕ → Option ℕ
-lowestFrom p image u = lowestBad p image (p.count - u) u
+abbrev pub lowest_from : Plan → List ℕ → ℕ → Option ℕ
+lowest_from p image u = lowest_bad p image (p.count - u) u
 
 abbrev pub found : Plan → List ℕ → Option ℕ → Found
 found p image none = Nothing

@@ -3,9 +3,9 @@
 ghost use Rattle.std.specs.Prelude.{◌≡◌, ◌≤◌, length};
 ghost use Rattle.model.specs.Layout.{marker, total, get};
 ghost use Rattle.model.proofs.RefusalLaws.{PlanOk};
-ghost use Rattle.model.specs.Refusals.{anyForeign};
-ghost use Rattle.model.specs.Calls.{cleanupFrom};
-ghost use Rattle.search.specs.Found.{lowestFrom, found};
+ghost use Rattle.model.specs.Refusals.{any_foreign};
+ghost use Rattle.model.specs.Calls.{cleanup_from};
+ghost use Rattle.search.specs.Found.{lowest_from, found};
 
 use layout::{base_of, unit_length};
 use marker::{Marker, direction_of};
@@ -21,7 +21,7 @@ pub enum Found {
 // The lowest unit from `from` on whose marker isn't OK.
 pub fn lowest_bad(plan: Plan, image: &[u8], from: u16) -> Found
     requires { PlanOk plan × (total plan ≤ length image.now) }
-    ensures { result ≡ found plan image.now (lowestFrom plan image.now from) }
+    ensures { result ≡ found plan image.now (lowest_from plan image.now from) }
 {
     let count = plan.count;
     let mut unit = from;
@@ -43,7 +43,7 @@ pub fn lowest_bad(plan: Plan, image: &[u8], from: u16) -> Found
 // The cleanup of the lowest unit from `from` on whose marker isn't OK, or Ready.
 pub fn cleanup_from(plan: Plan, image: &[u8], from: u16) -> Phase
     requires { PlanOk plan × (total plan ≤ length image.now) }
-    ensures { result ≡ cleanupFrom plan image.now from }
+    ensures { result ≡ cleanup_from plan image.now from }
 {
     let lowest = lowest_bad(plan, image, from);
     match lowest {
@@ -62,7 +62,7 @@ pub fn cleanup_from(plan: Plan, image: &[u8], from: u16) -> Phase
 // Whether any unit's marker is foreign, so that the memory is another product's.
 pub fn any_foreign(plan: Plan, image: &[u8]) -> bool
     requires { PlanOk plan × (total plan ≤ length image.now) }
-    ensures { result ≡ anyForeign (λ u. get plan image.now u marker) plan.count }
+    ensures { result ≡ any_foreign (λ u. get plan image.now u marker) plan.count }
 {
     let mut units = plan.count;
     while 0 < units {

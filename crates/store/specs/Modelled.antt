@@ -12,7 +12,7 @@ modelled d = record { plan = d.plan; payload = d.payload; phase = d.phase; store
 
 -- start, format and cut leave a zero payload
 abbrev pub blanked : Plan → Phase → ℕ → model.Device
-blanked p phase stores = record { plan = p; payload = model.zeroPayload; phase = phase; stores = stores }
+blanked p phase stores = record { plan = p; payload = model.zero_payload; phase = phase; stores = stores }
 
 -- The answer r, with the image that the call left, is the outcome o: number, next device, every byte.
 pub record Gives (r : Answer) (left : List ℕ) (o : model.Outcome) : Type 0 where

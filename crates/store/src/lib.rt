@@ -2,8 +2,8 @@
 // refusal of document 01 that applies, and the next device. A refused call gives the device back as it came and changes no byte.
 // Every contract is an equation with the definitions of crates/model/specs/Calls.antt, or, for `steps`, of Steps.antt.
 ghost use Rattle.std.specs.Prelude.{◌≡◌};
-ghost use Rattle.model.specs.Refusals.{readNumber};
-ghost use Rattle.model.specs.Calls.{view, start, format, begin, ride, group, paidRide, step, wake, cut, read, total_of, inspect};
+ghost use Rattle.model.specs.Refusals.{read_number};
+ghost use Rattle.model.specs.Calls.{view, start, format, begin, ride, group, paid_ride, step, wake, cut, read, total_of, inspect};
 ghost use Rattle.model.specs.Steps.{steps};
 ghost use Rattle.store.specs.Modelled.{modelled, blanked, Gives, Starts, Shows};
 
@@ -199,7 +199,7 @@ impl Device {
     // Refused: 1 to 5, 16 where one of the two is missing or isn't eight bytes wide, 20 where unit 1 is the group record, 21 where there is
     // no record or it is too narrow, 8, and 15 where a sum exceeds 64 bits, in this order.
     pub fn paid_ride(self, image: &[u8], turns: u64) -> Answer
-        ensures { Gives result image.now (paidRide (modelled self) image.now turns) }
+        ensures { Gives result image.now (paid_ride (modelled self) image.now turns) }
     {
         let plan = self.plan;
         let phase = self.phase;
@@ -331,7 +331,7 @@ impl Device {
 
     // 0, or why read is refused: 1 to 6, 22 where the role may not see the unit, or 8, in this order.
     pub fn read_number(self, image: &[u8], role: Role, unit: u16) -> u16
-        ensures { result ≡ readNumber (view (modelled self) image.now) role unit }
+        ensures { result ≡ read_number (view (modelled self) image.now) role unit }
     {
         let plan = self.plan;
         let phase = self.phase;

@@ -11,19 +11,19 @@ unfoldable pub hex : ℕ → List ℕ
 hex byte = digit (byte / 16) ∷ digit (byte % 16) ∷ []
 
 -- HH bytes, a space before each: "single spaces"
-unfoldable pub bytesText : List ℕ → List ℕ
-bytesText [] = []
-bytesText (byte ∷ bytes) = code " " ∷ (hex byte ++ bytesText bytes)
+unfoldable pub bytes_text : List ℕ → List ℕ
+bytes_text [] = []
+bytes_text (byte ∷ bytes) = code " " ∷ (hex byte ++ bytes_text bytes)
 
 -- the digit at a power of ten that the number reaches: "decimal without leading zeros"
-unfoldable pub digitAt : ℕ → ℕ → List ℕ
-digitAt number power = cond (ltb number power) [] (digit (number / power % 10) ∷ [])
+unfoldable pub digit_at : ℕ → ℕ → List ℕ
+digit_at number power = cond (ltb number power) [] (digit (number / power % 10) ∷ [])
 
 -- a number below 100,000; a line's number is at most 65,536
 unfoldable pub decimal : ℕ → List ℕ
 decimal number =
-    digitAt number 10000
-    ++ digitAt number 1000
-    ++ digitAt number 100
-    ++ digitAt number 10
+    digit_at number 10000
+    ++ digit_at number 1000
+    ++ digit_at number 100
+    ++ digit_at number 10
     ++ (digit (number % 10) ∷ [])

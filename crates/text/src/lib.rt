@@ -2,7 +2,7 @@
 // place in it, and hands back the place past its text. The `requires` ask for the most bytes that a text can take, and the `ensures`
 // give that bound back.
 ghost use Rattle.std.specs.Prelude.{◌≡◌, [], ◌∷◌, ◌+◌, ◌*◌, ◌<◌, ◌≤◌, length};
-ghost use Rattle.text.specs.Text.{digit, hex, bytesText, digitAt, decimal};
+ghost use Rattle.text.specs.Text.{digit, hex, bytes_text, digit_at, decimal};
 ghost use Rattle.text.specs.Wrote.{Wrote};
 
 pub fn put(out: &mut [u8], at: usize, byte: u8) -> usize
@@ -48,7 +48,7 @@ fn put_hex(out: &mut [u8], at: usize, byte: u8) -> usize
 // Each byte after a space.
 pub fn put_bytes(out: &mut [u8], at: usize, bytes: &[u8]) -> usize
     requires { at + 3 * length bytes.now ≤ length out.old }
-    ensures { Wrote out.old at (bytesText bytes.now) out.new result
+    ensures { Wrote out.old at (bytes_text bytes.now) out.new result
         × (result ≡ at + 3 * length bytes.now) }
 {
     let mut place = at;
@@ -64,7 +64,7 @@ pub fn put_bytes(out: &mut [u8], at: usize, bytes: &[u8]) -> usize
 // The digit of a number at a power of ten, if the number reaches it.
 fn put_digit(out: &mut [u8], at: usize, number: usize, power: usize) -> usize
     requires { (at < length out.old) × (0 < power) }
-    ensures { Wrote out.old at (digitAt number power) out.new result × (result ≤ at + 1) }
+    ensures { Wrote out.old at (digit_at number power) out.new result × (result ≤ at + 1) }
 {
     if number < power {
         return at;

@@ -1,11 +1,11 @@
 // Paid rides: what a ride costs, what refuses a paid ride, and the group that it saves: the turns in unit 0, the cents in unit 1.
 ghost use Rattle.std.specs.Prelude.{◌≡◌, not, ◌||◌, [], ◌∷◌, ◌++◌, ◌+◌, ◌≤◌, ◌<◌, eqb, ltb, length};
 ghost use Rattle.model.specs.Marker.{OK};
-ghost use Rattle.model.specs.Layout.{copyA, marker, width, total, get, copy_of};
+ghost use Rattle.model.specs.Layout.{copy_a, marker, width, total, get, copy_of};
 ghost use Rattle.model.specs.Turns.{amount};
 ghost use Rattle.model.specs.Groups.{last};
-ghost use Rattle.model.specs.Prices.{price, paidGroup};
-ghost use Rattle.model.specs.Refusals.{◌when◌, first, noTill, paidNumber};
+ghost use Rattle.model.specs.Prices.{price, paid_group};
+ghost use Rattle.model.specs.Refusals.{◌when◌, first, no_till, paid_number};
 ghost use Rattle.model.specs.Calls.{view_of};
 ghost use Rattle.model.proofs.RefusalLaws.{PlanOk};
 ghost use Rattle.till.specs.Room.{Room};
@@ -38,7 +38,7 @@ pub fn price(turns: u64) -> u64
 
 // Whether the turns or the cents have no unit that is eight bytes wide.
 fn no_till(plan: Plan) -> bool
-    ensures { result ≡ noTill plan }
+    ensures { result ≡ no_till plan }
 {
     let turns = width_of(plan, 0);
     let cents = width_of(plan, 1);
@@ -74,7 +74,7 @@ fn marks_number(plan: Plan, image: &[u8]) -> u16
 // The total that unit 0 or 1 holds in copy A.
 fn held(plan: Plan, image: &[u8], unit: u16) -> u64
     requires { Room plan image.now × (unit < 2) }
-    ensures { result ≡ amount (copy_of plan image.now unit copyA) }
+    ensures { result ≡ amount (copy_of plan image.now unit copy_a) }
 {
     let span = span_of(plan, unit, image.len());
     let start = (span.base + span.a) as usize;
@@ -91,8 +91,8 @@ fn too_much(held: u64, more: u64) -> bool
 // 15, if one of the two sums exceeds 64 bits.
 fn sums_number(plan: Plan, image: &[u8], turns: u64) -> u16
     requires { Room plan image.now }
-    ensures { result ≡ first (15 when (ltb 18446744073709551615 (amount (copy_of plan image.now 0 copyA) + turns)
-        || ltb 18446744073709551615 (amount (copy_of plan image.now 1 copyA) + price turns)) ∷ []) }
+    ensures { result ≡ first (15 when (ltb 18446744073709551615 (amount (copy_of plan image.now 0 copy_a) + turns)
+        || ltb 18446744073709551615 (amount (copy_of plan image.now 1 copy_a) + price turns)) ∷ []) }
 {
     if too_much(held(plan, image, 0), turns) {
         return SUM_TOO_LARGE;
@@ -105,8 +105,8 @@ fn sums_number(plan: Plan, image: &[u8], turns: u64) -> u16
 
 // Refusals 1 to 5, 16, 20, 21, 8 and 15 of a paid ride, in this order.
 pub fn paid_number(plan: Plan, payload: &[u8; 256], phase: Phase, image: &[u8], turns: u64) -> u16
-    ensures { result ≡ paidNumber (view_of plan payload.now phase image.now)
-        (copy_of plan image.now 0 copyA) (copy_of plan image.now 1 copyA) turns }
+    ensures { result ≡ paid_number (view_of plan payload.now phase image.now)
+        (copy_of plan image.now 0 copy_a) (copy_of plan image.now 1 copy_a) turns }
 {
     let number = ready_number(plan, payload, phase, image.len());
     if number != 0 {
@@ -142,9 +142,9 @@ fn members(total: &[u8], cents: &[u8]) -> [u8; 18]
 
 // The group of an accepted paid ride: the total in unit 0 and the turns, the cents in unit 1 and the price.
 pub fn fare(plan: Plan, image: &[u8], turns: u64) -> [u8; 18]
-    requires { Room plan image.now × (amount (copy_of plan image.now 0 copyA) + turns ≤ 18446744073709551615)
-        × (amount (copy_of plan image.now 1 copyA) + price turns ≤ 18446744073709551615) }
-    ensures { result ≡ paidGroup (copy_of plan image.now 0 copyA) (copy_of plan image.now 1 copyA) turns }
+    requires { Room plan image.now × (amount (copy_of plan image.now 0 copy_a) + turns ≤ 18446744073709551615)
+        × (amount (copy_of plan image.now 1 copy_a) + price turns ≤ 18446744073709551615) }
+    ensures { result ≡ paid_group (copy_of plan image.now 0 copy_a) (copy_of plan image.now 1 copy_a) turns }
 {
     let total = bytes_of(held(plan, image, 0) + turns);
     let cents = bytes_of(held(plan, image, 1) + price(turns));

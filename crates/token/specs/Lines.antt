@@ -4,9 +4,9 @@ use Prim.Native.Char.{code}
 use Rattle.bytes.specs.Bytes.{index_of, slice}
 
 -- "LF, the last LF optional": the offset of the next LF, or the text's end
-unfoldable pub lineEnd : List ℕ → ℕ → ℕ
-lineEnd text at = at + index_of (code "\n") (slice at (length text) text)
+unfoldable pub line_end : List ℕ → ℕ → ℕ
+line_end text at = at + index_of (code "\n") (slice at (length text) text)
 
 -- the line up to its LF
 unfoldable pub line_at : List ℕ → ℕ → List ℕ
-line_at text at = take (lineEnd text at - at) (drop at text)
+line_at text at = take (line_end text at - at) (drop at text)

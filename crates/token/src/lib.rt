@@ -1,7 +1,7 @@
 // Tokens at a place of a line: a byte, a word, a number. Each reading function is handed the line and a place in it, and
 // hands back the place past what it read, or LOST, where nothing is read any more. So one test, at the end, tells whether all was there.
 ghost use Rattle.std.specs.Prelude.{◌≡◌, ◌+◌, ◌-◌, ◌*◌, ◌<◌, ◌≤◌, length};
-ghost use Rattle.token.specs.Token.{eatAt, word_at, digitOf, digitAt, extendAt, hexAt, more_at, atMost, entry_at, number_at};
+ghost use Rattle.token.specs.Token.{eat_at, word_at, digit_of, digit_at, extend_at, hex_at, more_at, at_most, entry_at, number_at};
 
 // The largest usize: no slice has this place.
 pub const LOST: usize = 18446744073709551615;
@@ -15,7 +15,7 @@ pub struct Item {
 
 // Past one byte.
 pub fn eat(line: &[u8], at: usize, byte: u8) -> usize
-    ensures { result ≡ eatAt line.now at byte }
+    ensures { result ≡ eat_at line.now at byte }
 {
     if at < line.len() {
         if line[at] == byte { at + 1 } else { LOST }
@@ -39,7 +39,7 @@ pub fn word(line: &[u8], at: usize, word: &[u8]) -> usize
 
 // The value of a digit, 0 to 15; 16 for any other byte.
 fn digit_of(byte: u8) -> usize
-    ensures { (result ≡ digitOf byte) × (result ≤ 16) }
+    ensures { (result ≡ digit_of byte) × (result ≤ 16) }
 {
     if byte < b'0' {
         return 16;
@@ -58,7 +58,7 @@ fn digit_of(byte: u8) -> usize
 
 // The digit at a place, or 16; a digit stands inside the line.
 fn digit(line: &[u8], at: usize) -> usize
-    ensures { (result ≡ digitAt line.now at) × (result ≤ 16) × (result < 16 → at < length line.now) }
+    ensures { (result ≡ digit_at line.now at) × (result ≤ 16) × (result < 16 → at < length line.now) }
 {
     if at < line.len() {
         digit_of(line[at])
@@ -70,7 +70,7 @@ fn digit(line: &[u8], at: usize) -> usize
 // The item with one digit more. The bounds keep base times value inside a usize.
 fn extend(line: &[u8], base: usize, item: Item) -> Item
     requires { (base ≤ 16) × (item.value ≤ 9999) }
-    ensures { (result ≡ extendAt line.now base item) × (result.value ≤ base * item.value + (base - 1)) }
+    ensures { (result ≡ extend_at line.now base item) × (result.value ≤ base * item.value + (base - 1)) }
 {
     let d = digit(line, item.next);
     if d < base {
@@ -88,7 +88,7 @@ fn extend(line: &[u8], base: usize, item: Item) -> Item
 
 // Two hexadecimal digits.
 pub fn hex(line: &[u8], at: usize) -> Item
-    ensures { (result ≡ hexAt line.now at) × (result.value ≤ 255) }
+    ensures { (result ≡ hex_at line.now at) × (result.value ≤ 255) }
 {
     let none = Item { value: 0, next: at };
     extend(line, 16, extend(line, 16, none))
@@ -108,7 +108,7 @@ fn more(line: &[u8], item: Item) -> Item
 
 // The item, if its value is not above `most`.
 fn at_most(most: usize, item: Item) -> Item
-    ensures { (result ≡ atMost most item) × (result.value ≤ most) }
+    ensures { (result ≡ at_most most item) × (result.value ≤ most) }
 {
     if item.value <= most {
         item

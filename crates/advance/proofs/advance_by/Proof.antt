@@ -7,7 +7,7 @@ use native.Mathlib.Nat.{sub-zero}
 use lib.ListN.{length}
 use Rattle.model.specs.Steps.{steps}
 use Rattle.advance.specs.Advances.{parts}
-use Rattle.advance.proofs.Going.{row_ends, row-stops, row-goes-on}
+use Rattle.advance.proofs.Going.{row_ends, row_stops, row_goes_on}
 use Rattle.advance.proofs.advance_by.Statement.{statement}
 use Rattle.advance.proofs.advance_by.Tie as tie
 
@@ -33,7 +33,7 @@ same-length-2 c = search rules
 returns : tie.Need-returns invariant-loop decreases-loop
 returns c = let a = c.before.before.before.before.before.before.before.before.before.before.before.before.args in
     let l = c.before.before.before.before.before.before.before.before.before.loop in
-    sym (row-stops a.count l.made (parts a.plan l.payload l.phase l.stores) l.image c.before.before.before.before.before.before.before.before.loop-test.true _ _ _ c.before.before.before.before.before.advance.ensures (λ z. absurd (omega (arith, c.if1.true, z)))) ∙ l.invariant.0
+    sym (row_stops a.count l.made (parts a.plan l.payload l.phase l.stores) l.image c.before.before.before.before.before.before.before.before.loop-test.true _ _ _ c.before.before.before.before.before.advance.ensures (λ z. absurd (omega (arith, c.if1.true, z)))) ∙ l.invariant.0
 
 add-made : tie.Need-overflow-add-made invariant-loop decreases-loop
 add-made c = search rules
@@ -44,7 +44,7 @@ loop-less c = search rules
 loop-again : tie.Need-loop-preserved invariant-loop decreases-loop
 loop-again c = let a = c.before.before.before.before.before.before.before.before.before.before.before.before.args in
     let l = c.before.before.before.before.before.before.before.before.before.loop in
-    (sym (row-goes-on a.count l.made (parts a.plan l.payload l.phase l.stores) l.image c.before.before.before.before.before.before.before.before.loop-test.true _ _ _ c.before.before.before.before.before.advance.ensures (omega (arith, c.if1.false))) ∙ l.invariant.0, omega arith, search rules, search rules)
+    (sym (row_goes_on a.count l.made (parts a.plan l.payload l.phase l.stores) l.image c.before.before.before.before.before.before.before.before.loop-test.true _ _ _ c.before.before.before.before.before.advance.ensures (omega (arith, c.if1.false))) ∙ l.invariant.0, omega arith, search rules, search rules)
 
 same-length-3 : tie.Need-same-length-3 invariant-loop decreases-loop
 same-length-3 c = search rules

@@ -1,7 +1,7 @@
 -- `advance::advance_grouping` meets its contract: there is no such write, or its part of the payload is found.
-use Rattle.model.proofs.RefusalLaws.{width-bounds}
-use Rattle.model.proofs.GroupLaws.{last-lt}
-use Rattle.advance.proofs.Parts.{part-refused}
+use Rattle.model.proofs.RefusalLaws.{width_bounds}
+use Rattle.model.proofs.GroupLaws.{last_lt}
+use Rattle.advance.proofs.Parts.{part_refused}
 use borrow.Author.Rules.{rules}
 use Rattle.advance.proofs.advance_grouping.Statement.{statement}
 use Rattle.advance.proofs.advance_grouping.Tie as tie
@@ -9,14 +9,14 @@ use Rattle.advance.proofs.advance_grouping.Tie as tie
 part-of-requires : tie.Need-part-of-requires
 part-of-requires c κs = let p = c.before.before.args.plan in
     let ok = c.before.before.requires.0 in
-    ((width-bounds p ok _ (last-lt p ok)).1, c.before.before.requires.2)
+    ((width_bounds p ok _ (last_lt p ok)).1, c.before.before.requires.2)
 
 refused-requires : tie.Need-refused-requires
 refused-requires c κs = search rules
 
 returns : tie.Need-returns
 returns c = let a = c.before.before.before.before.before.args in
-    part-refused a.plan a.payload.now a.write a.made a.earlier a.image.now c.before.before.part_of.ensures c.before.before.before.before.before.requires.0 c.before.before.before.before.before.requires.1 c.before.if1.true _ c.refused.ensures
+    part_refused a.plan a.payload.now a.write a.made a.earlier a.image.now c.before.before.part_of.ensures c.before.before.before.before.before.requires.0 c.before.before.before.before.before.requires.1 c.before.if1.true _ c.refused.ensures
 
 advance-part-requires : tie.Need-advance-part-requires
 advance-part-requires c κs = search rules

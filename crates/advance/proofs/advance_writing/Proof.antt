@@ -1,7 +1,7 @@
 -- `advance::advance_writing` meets its contract: what is left of the write tells the phase after the store.
 use native.Mathlib.Omega.{arith}
 use mathlib.Core.Path.{◌∙◌}
-use Rattle.advance.proofs.Parts.{write-refused, write-over, write-on}
+use Rattle.advance.proofs.Parts.{write_refused, write_over, write_on}
 use borrow.Author.Rules.{rules}
 use Rattle.advance.proofs.advance_writing.Statement.{statement}
 use Rattle.advance.proofs.advance_writing.Tie as tie
@@ -17,7 +17,7 @@ same_length c = search rules
 
 returns : tie.Need-returns
 returns c = let a = c.before.before.before.before.before.before.before.before.args in
-    λ p s z. write-refused p a.unit a.made a.earlier a.image.now a.span s z a.payload.now _ _ c.before.before.before.before.write-next.ensures c.before.if1.true _ c.refused.ensures
+    λ p s z. write_refused p a.unit a.made a.earlier a.image.now a.span s z a.payload.now _ _ c.before.before.before.before.write-next.ensures c.before.if1.true _ c.refused.ensures
 
 count-one-requires : tie.Need-count-one-requires
 count-one-requires c κs = search rules
@@ -27,7 +27,7 @@ same-length-2 c = search rules
 
 returns-2 : tie.Need-returns-2
 returns-2 c = let a = c.before.before.before.before.before.before.before.before.before.args in
-    λ p s z. write-over p a.unit a.made a.earlier a.image.now a.span s z a.payload.now _ _ c.before.before.before.before.before.write-next.ensures c.before.before.if1.false _ c.before.count-one.ensures c.if2.true
+    λ p s z. write_over p a.unit a.made a.earlier a.image.now a.span s z a.payload.now _ _ c.before.before.before.before.before.write-next.ensures c.before.before.if1.false _ c.before.count-one.ensures c.if2.true
 
 add-next : tie.Need-overflow-add-next
 add-next c = let m = c.before.before.before.before.before.write-next.ensures in
@@ -38,7 +38,7 @@ same-length-3 c = search rules
 
 returns-3 : tie.Need-returns-3
 returns-3 c = let a = c.before.before.before.before.before.before.before.before.before.args in
-    λ p s z. write-on p a.unit a.made a.earlier a.image.now a.span s z a.payload.now _ _ c.before.before.before.before.before.write-next.ensures c.before.before.if1.false _ c.before.count-one.ensures c.if2.false
+    λ p s z. write_on p a.unit a.made a.earlier a.image.now a.span s z a.payload.now _ _ c.before.before.before.before.before.write-next.ensures c.before.before.if1.false _ c.before.count-one.ensures c.if2.false
 
 pub advance-writing-spec : {M : Type 1} → statement M
 advance-writing-spec =

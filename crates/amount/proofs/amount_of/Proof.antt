@@ -5,7 +5,7 @@ use mathlib.Core.Path.{◌≡◌}
 use Prim.Native.Nat.{◌+◌, ◌-◌, ◌≤◌}
 use lib.ListN.{length, drop}
 use Rattle.model.specs.Turns.{amount}
-use Rattle.amount.proofs.Laws.{wider, added, rest-small, none_left, byte-before}
+use Rattle.amount.proofs.Laws.{wider, added, rest_small, none_left, byte_before}
 use Rattle.amount.proofs.amount_of.Statement.{statement}
 use Rattle.amount.proofs.amount_of.Tie as tie
 
@@ -29,11 +29,11 @@ cast-value c = wider (c.shared-slice-known.given _)
 
 mul-value : tie.Need-overflow-mul-value invariant-loop decreases-loop
 mul-value c = let i = c.before.before.loop.i in
-    omega (arith, rest-small 7 (8 - i) c.before.before.before.args.bytes.now (omega arith) c.shared-slice-known.given)
+    omega (arith, rest_small 7 (8 - i) c.before.before.before.args.bytes.now (omega arith) c.shared-slice-known.given)
 
 add-value : tie.Need-overflow-add-value invariant-loop decreases-loop
 add-value c = let i = c.before.before.loop.i in
-    added _ _ (c.shared-slice-known.given _) (omega (arith, rest-small 7 (8 - i) c.before.before.before.args.bytes.now (omega arith) c.shared-slice-known.given))
+    added _ _ (c.shared-slice-known.given _) (omega (arith, rest_small 7 (8 - i) c.before.before.before.args.bytes.now (omega arith) c.shared-slice-known.given))
 
 add-i : tie.Need-overflow-add-i invariant-loop decreases-loop
 add-i c = search rules
@@ -44,7 +44,7 @@ loop-less c = search rules
 loop-again : tie.Need-loop-preserved invariant-loop decreases-loop
 loop-again c = let i = c.before.before.loop.i in
     let xs = c.before.before.before.args.bytes.now in
-    (omega arith, omega (arith, byte-before xs (8 - (i + 1)) (7 - i) (8 - i) (omega arith) (omega arith) (omega arith)))
+    (omega arith, omega (arith, byte_before xs (8 - (i + 1)) (7 - i) (8 - i) (omega arith) (omega arith) (omega arith)))
 
 returns : tie.Need-returns invariant-loop decreases-loop
 returns c = let l = c.before.loop in

@@ -5,13 +5,13 @@ use mathlib.Core.Path.{◌≡◌, refl, ◌∙◌}
 use mathlib.Core.List.{◌++◌}
 use Prim.Native.Nat.{◌-◌, ◌≤◌}
 use lib.ListN.{length, take, length-set}
-use Rattle.model.specs.Turns.{inBytes}
-use Rattle.amount.proofs.Laws.{byte-stored, all-stored}
+use Rattle.model.specs.Turns.{in_bytes}
+use Rattle.amount.proofs.Laws.{byte_stored, all_stored}
 use Rattle.amount.proofs.bytes_of.Statement.{statement}
 use Rattle.amount.proofs.bytes_of.Tie as tie
 
 abbrev invariant-loop : tie.invariant-loop
-invariant-loop value bytes₀ rest₀ at₀ bytes rest at = (at ≤ 8) × (length bytes ≡ 8) × (take at bytes ++ inBytes (8 - at) rest ≡ inBytes 8 value)
+invariant-loop value bytes₀ rest₀ at₀ bytes rest at = (at ≤ 8) × (length bytes ≡ 8) × (take at bytes ++ in_bytes (8 - at) rest ≡ in_bytes 8 value)
 
 abbrev decreases-loop : tie.decreases-loop
 decreases-loop value bytes₀ rest₀ at₀ bytes rest at = 8 - at
@@ -33,11 +33,11 @@ loop-less c = search rules
 
 loop-again : tie.Need-loop-preserved invariant-loop decreases-loop
 loop-again c = let l = c.before.loop in
-    (omega arith, length-set l.bytes l.at _ ∙ l.invariant.1, byte-stored l.bytes 8 l.at l.rest _ _ (omega arith) (omega arith) (omega arith) (omega arith) ∙ l.invariant.2)
+    (omega arith, length-set l.bytes l.at _ ∙ l.invariant.1, byte_stored l.bytes 8 l.at l.rest _ _ (omega arith) (omega arith) (omega arith) (omega arith) ∙ l.invariant.2)
 
 returns : tie.Need-returns invariant-loop decreases-loop
 returns c = let l = c.before.loop in
-    all-stored l.bytes 8 l.at l.rest (omega arith) (omega arith) ∙ l.invariant.2
+    all_stored l.bytes 8 l.at l.rest (omega arith) (omega arith) ∙ l.invariant.2
 
 pub bytes-of-spec : {M : Type 1} → statement M
 bytes-of-spec =

@@ -3,10 +3,10 @@ use native.Mathlib.Omega.{arith}
 use mathlib.Core.Path.{sym, ◌∙◌}
 use borrow.Author.Rules.{rules}
 use Rattle.brake.specs.Table.{drives}
-use Rattle.brake.proofs.Accepted.{in-range}
+use Rattle.brake.proofs.Accepted.{in_range}
 use Rattle.brake.proofs.Table.{look_up}
 use Rattle.brake.proofs.Drives.{tested}
-use Rattle.brake.proofs.Over.{drive-refused}
+use Rattle.brake.proofs.Over.{drive_refused}
 use Rattle.brake.proofs.drive.Statement.{statement}
 use Rattle.brake.proofs.drive.Tie as tie
 
@@ -15,16 +15,16 @@ refusal-requires c κs = search rules
 
 returns : tie.Need-returns
 returns c = let e = c.before.refusal.ensures in
-    record { number = e; drive = drive-refused _ _ _ e c.if1.true }
+    record { number = e; drive = drive_refused _ _ _ e c.if1.true }
 
 place-requires : tie.Need-place-requires
-place-requires c κs = in-range _ _ (sym c.before.refusal.ensures ∙ c.if1.false)
+place-requires c κs = in_range _ _ (sym c.before.refusal.ensures ∙ c.if1.false)
 
 mul-entry : tie.Need-overflow-mul-entry
 mul-entry c = search rules
 
 array-read-entry : tie.Need-array-read-entry
-array-read-entry c = omega (arith, in-range _ _ (sym c.before.before.refusal.ensures ∙ c.before.if1.false), c.place.ensures)
+array-read-entry c = omega (arith, in_range _ _ (sym c.before.before.refusal.ensures ∙ c.before.if1.false), c.place.ensures)
 
 returns-2 : tie.Need-returns-2
 unfolding drives

@@ -4,17 +4,17 @@ use borrow.Author.Tests.{ne_eqb, lt-ltb}
 use mathlib.Core.Logic.{⊎_elim}
 use mathlib.Core.Path.{sym}
 use Rattle.model.specs.Refusals.{first}
-use Rattle.model.specs.Drive.{driveNumber}
+use Rattle.model.specs.Drive.{drive_number}
 use Rattle.brake.proofs.Accepted.{accepts}
 use Rattle.brake.proofs.refusal.Statement.{statement}
 use Rattle.brake.proofs.refusal.Tie as tie
 
 returns : tie.Need-returns
-unfolding driveNumber first
+unfolding drive_number first
 returns c = ⊎_elim (λ zero. simp zero.taken) (λ above. simp (ne_eqb _ _ above.0.left, above.1.taken)) c.if1.branch
 
 returns-2 : tie.Need-returns-2
-unfolding driveNumber first
+unfolding drive_number first
 returns-2 c = simp (ne_eqb _ _ c.before.before.if1.false, c.before.if2.false, lt-ltb _ _ c.if3.true)
 
 returns-3 : tie.Need-returns-3

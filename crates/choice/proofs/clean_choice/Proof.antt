@@ -1,8 +1,8 @@
 -- `choice::clean_choice` meets its contract: a byte of the good copy, the marker at the end, or nothing past it.
 use native.Mathlib.Omega.{arith}
 use mathlib.Core.Path.{refl}
-use Rattle.model.specs.Layout.{copyA, copyB, marker, byte}
-use Rattle.choice.proofs.Laws.{span-width, span-A, span-B, cleanup-A-to-B, cleanup-B-to-A, cleanup-OK}
+use Rattle.model.specs.Layout.{copy_a, copy_b, marker, byte}
+use Rattle.choice.proofs.Laws.{span_width, span_a, span_b, cleanup_a_to_b, cleanup_b_to_a, cleanup_ok}
 use Rattle.choice.proofs.Picks.{picked_more, picked_last, picked_none}
 use borrow.Author.Rules.{rules}
 use Rattle.choice.proofs.clean_choice.Statement.{statement}
@@ -47,13 +47,13 @@ pick-requires-2 c κs = search rules
 returns : tie.Need-returns
 returns c = let a = c.before.before.before.before.before.before.before.before.before.args in
     picked_more _ _ _ _ _ _ _ (omega (arith, c.before.before.before.before.before.before.before.before.before.requires.0, c.before.before.before.before.before.before.before.if1.true))
-    (λ p u e. record { cell = byte copyB _; is = cleanup-A-to-B p a.image.now u a.made _ a.direction (span-width p u _ e) _ e c.before.before.before.enum_told.given.1 c.before.before.before.before.before.before.before.if1.true; at = span-B p u _ e _ })
+    (λ p u e. record { cell = byte copy_b _; is = cleanup_a_to_b p a.image.now u a.made _ a.direction (span_width p u _ e) _ e c.before.before.before.enum_told.given.1 c.before.before.before.before.before.before.before.if1.true; at = span_b p u _ e _ })
     (omega (arith, c.before.before.before.before.before.before.before.if1.true)) c.pick.ensures
 
 returns-2 : tie.Need-returns-2
 returns-2 c = let a = c.before.before.before.before.before.before.before.before.before.args in
     picked_more _ _ _ _ _ _ _ (omega (arith, c.before.before.before.before.before.before.before.before.before.requires.0, c.before.before.before.before.before.before.before.if1.true))
-    (λ p u e. record { cell = byte copyA _; is = cleanup-B-to-A p a.image.now u a.made _ a.direction (span-width p u _ e) _ e c.before.before.before.enum-told2.given.1 c.before.before.before.before.before.before.before.if1.true; at = span-A p u _ e _ })
+    (λ p u e. record { cell = byte copy_a _; is = cleanup_b_to_a p a.image.now u a.made _ a.direction (span_width p u _ e) _ e c.before.before.before.enum-told2.given.1 c.before.before.before.before.before.before.before.if1.true; at = span_a p u _ e _ })
     (omega (arith, c.before.before.before.before.before.before.before.if1.true)) c.pick2.ensures
 
 pick-requires-3 : tie.Need-pick-requires-3
@@ -62,7 +62,7 @@ pick-requires-3 c κs = search rules
 returns-3 : tie.Need-returns-3
 returns-3 c = let a = c.before.before.before.before.args in
     picked_last _ _ _ _ _ _ _ (omega (arith, c.before.before.before.before.requires.0))
-    (λ p u e. record { cell = marker; is = cleanup-OK p a.image.now u a.made _ a.direction (span-width p u _ e) (omega (arith, c.before.if2.true)) (omega (arith, c.before.if2.true, span-width p u _ e)); at = refl })
+    (λ p u e. record { cell = marker; is = cleanup_ok p a.image.now u a.made _ a.direction (span_width p u _ e) (omega (arith, c.before.if2.true)) (omega (arith, c.before.if2.true, span_width p u _ e)); at = refl })
     (omega (arith, c.before.if2.true)) c.pick3.ensures
 
 pick-requires-4 : tie.Need-pick-requires-4

@@ -6,7 +6,7 @@ use mathlib.Core.Path.{◌≡◌, refl, ap, ◌∙◌}
 use mathlib.Core.List.{List, ◌++◌}
 use lib.ListN.{length, take, replicate, set, get_or, length-replicate, length-set}
 use lib.Seq.{take_all}
-use Rattle.format.proofs.Padding.{pad-more}
+use Rattle.format.proofs.Padding.{pad_more}
 use Rattle.format.proofs.fill.Statement.{statement}
 use Rattle.format.proofs.fill.Tie as tie
 
@@ -39,7 +39,7 @@ loop-less c = search rules
 loop-again : tie.Need-loop-preserved invariant-loop decreases-loop
 loop-again c = let xs = c.before.before.before.before.before.before.before.before.before.args.bytes.now in
     let l = c.before.before.loop in
-    (omega arith, omega arith, simp length-set (omega arith), ap (λ (t : List ℕ). set t l.i (get_or xs l.i 0)) l.invariant.3 ∙ pad-more xs (length c.before.before.before.before.before.clear.new.0) l.i c.before.loop-test.true (omega arith))
+    (omega arith, omega arith, simp length-set (omega arith), ap (λ (t : List ℕ). set t l.i (get_or xs l.i 0)) l.invariant.3 ∙ pad_more xs (length c.before.before.before.before.before.clear.new.0) l.i c.before.loop-test.true (omega arith))
 
 same_length : tie.Need-same-length invariant-loop decreases-loop
 same_length c = let s : length c.before.before.before.before.clear.new.0 ≡ length c.before.before.before.before.before.before.before.before.args.span.now = ap length c.before.before.before.before.clear.ensures ∙ length-replicate (length c.before.before.before.before.before.before.before.before.args.span.now) 0 in

@@ -5,9 +5,9 @@ use Prim.Native.Nat.{◌+◌, ◌-◌, ◌≤◌}
 use mathlib.Core.Path.{◌≡◌, refl, sym, ap₂}
 use mathlib.Core.List.{◌++◌}
 use lib.ListN.{length, drop, length-take, length-drop}
-use Rattle.model.proofs.LayoutLaws.{unit-some, base-bound}
-use Rattle.layout.proofs.Laws.{base_more, base-none}
-use Rattle.format.proofs.Format.{fresh-more}
+use Rattle.model.proofs.LayoutLaws.{unit_some, base_bound}
+use Rattle.layout.proofs.Laws.{base_more, base_none}
+use Rattle.format.proofs.Format.{fresh_more}
 use Rattle.model.specs.Layout.{fresh, formatted}
 use Rattle.model.specs.Layout as layout
 use Rattle.format.proofs.format_units.Statement.{statement}
@@ -21,14 +21,14 @@ decreases-loop plan image₀ count unit₀ base₀ image unit base = count - uni
 
 loop-holds : tie.Need-loop-init invariant-loop decreases-loop
 unfolding fresh
-loop-holds c = (omega arith, sym (base-none c.before.args.plan), refl, refl)
+loop-holds c = (omega arith, sym (base_none c.before.args.plan), refl, refl)
 
 unit-length-requires : tie.Need-unit-length-requires invariant-loop decreases-loop
 unit-length-requires c κs = search rules
 
 add-end : tie.Need-overflow-add-end invariant-loop decreases-loop
 add-end c = let p = c.before.before.before.before.args.plan in
-    omega (arith, base-bound p c.before.before.before.before.requires.0 c.before.before.loop.unit p.count c.before.loop-test.true, c.before.before.before.before.requires.1, c.before.before.loop.invariant.1, c.unit-length.ensures.0)
+    omega (arith, base_bound p c.before.before.before.before.requires.0 c.before.before.loop.unit p.count c.before.loop-test.true, c.before.before.before.before.requires.1, c.before.before.loop.invariant.1, c.unit-length.ensures.0)
 
 sub-format-unit : tie.Need-overflow-sub-format-unit invariant-loop decreases-loop
 sub-format-unit c = search rules
@@ -38,13 +38,13 @@ part-format-unit-start c = search rules
 
 part-format-unit-end : tie.Need-slice-bounds-format-unit-end invariant-loop decreases-loop
 part-format-unit-end c = let p = c.before.before.before.before.args.plan in
-    omega (arith, base-bound p c.before.before.before.before.requires.0 c.before.before.loop.unit p.count c.before.loop-test.true, c.before.before.before.before.requires.1, c.before.before.loop.invariant.1, c.before.before.loop.invariant.2, c.unit-length.ensures.0)
+    omega (arith, base_bound p c.before.before.before.before.requires.0 c.before.before.loop.unit p.count c.before.loop-test.true, c.before.before.before.before.requires.1, c.before.before.loop.invariant.1, c.before.before.loop.invariant.2, c.unit-length.ensures.0)
 
 format-unit-requires : tie.Need-format-unit-requires invariant-loop decreases-loop
 format-unit-requires c κs = let p = c.before.before.before.before.before.args.plan in
     let h = c.before.before.before.loop in
     simp (length-take, length-drop)
-    (omega (arith, unit-some p c.before.before.before.before.before.requires.0 h.unit, base-bound p c.before.before.before.before.before.requires.0 h.unit p.count c.before.before.loop-test.true, c.before.before.before.before.before.requires.1, h.invariant.1, h.invariant.2, c.before.unit-length.ensures.0))
+    (omega (arith, unit_some p c.before.before.before.before.before.requires.0 h.unit, base_bound p c.before.before.before.before.before.requires.0 h.unit p.count c.before.before.loop-test.true, c.before.before.before.before.before.requires.1, h.invariant.1, h.invariant.2, c.before.unit-length.ensures.0))
 
 add-unit : tie.Need-overflow-add-unit invariant-loop decreases-loop
 add-unit c = search rules
@@ -56,12 +56,12 @@ loop-again : tie.Need-loop-preserved invariant-loop decreases-loop
 loop-again c = let a = c.before.before.before.before.before.before.before.before.args in
     let r = c.before.before.before.before.before.before in
     let p = a.plan in
-    let bound = base-bound p c.before.before.before.before.before.before.before.before.requires.0 r.loop.unit p.count c.before.before.before.before.before.loop-test.true in
+    let bound = base_bound p c.before.before.before.before.before.before.before.before.requires.0 r.loop.unit p.count c.before.before.before.before.before.loop-test.true in
     let length-is = c.before.before.before.before.unit-length.ensures.0 in (
       omega arith,
       rw (base_more p r.loop.unit) (ap₂ ◌+◌ r.loop.invariant.1 length-is),
       search rules,
-      fresh-more p c.before.before.before.before.before.before.before.before.requires.0 r.loop.unit r.loop.base _ a.image.now r.loop.image c.before.before.format-unit.new.0 r.loop.invariant.1 length-is (omega (arith, c.before.before.before.before.before.before.before.before.requires.1)) r.loop.invariant.3 c.before.before.format-unit.ensures,
+      fresh_more p c.before.before.before.before.before.before.before.before.requires.0 r.loop.unit r.loop.base _ a.image.now r.loop.image c.before.before.format-unit.new.0 r.loop.invariant.1 length-is (omega (arith, c.before.before.before.before.before.before.before.before.requires.1)) r.loop.invariant.3 c.before.before.format-unit.ensures,
     )
 
 same_length : tie.Need-same-length invariant-loop decreases-loop

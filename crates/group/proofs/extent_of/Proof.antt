@@ -3,7 +3,7 @@ use borrow.Author.Rules.{rules}
 use native.Mathlib.Omega.{arith}
 use Prim.Native.Nat.{◌-◌}
 use mathlib.Core.Path.{sym}
-use Rattle.group.proofs.Extent.{Reached, reached-none, reached-end, reached-all, reached-short, reached-more}
+use Rattle.group.proofs.Extent.{Reached, reached_none, reached_end, reached_all, reached_short, reached_more}
 use Rattle.group.proofs.extent_of.Statement.{statement}
 use Rattle.group.proofs.extent_of.Tie as tie
 
@@ -14,10 +14,10 @@ abbrev decreases-loop : tie.decreases-loop
 decreases-loop plan bytes members length at₀ passed₀ at passed = members - passed
 
 loop-holds : tie.Need-loop-init invariant-loop decreases-loop
-loop-holds c = reached-none _ _ _
+loop-holds c = reached_none _ _ _
 
 returns : tie.Need-returns invariant-loop decreases-loop
-returns c = sym (reached-end c.before.before.loop.invariant (omega arith))
+returns c = sym (reached_end c.before.before.loop.invariant (omega arith))
 
 shared-slice-read-width-of : tie.Need-shared-slice-read-width-of invariant-loop decreases-loop
 shared-slice-read-width-of c = search rules
@@ -35,7 +35,7 @@ sub-if2 : tie.Need-overflow-sub-if2 invariant-loop decreases-loop
 sub-if2 c = search rules
 
 returns-2 : tie.Need-returns-2 invariant-loop decreases-loop
-returns-2 c = sym (reached-short c.before.before.before.before.before.loop.invariant _ (omega arith) (omega arith) c.before.width_of_lem.ensures (omega arith))
+returns-2 c = sym (reached_short c.before.before.before.before.before.loop.invariant _ (omega arith) (omega arith) c.before.width_of_lem.ensures (omega arith))
 
 add_at : tie.Need-overflow-add-at invariant-loop decreases-loop
 add_at c = search rules
@@ -50,10 +50,10 @@ loop-less : tie.Need-loop-smaller invariant-loop decreases-loop
 loop-less c = search rules
 
 loop-again : tie.Need-loop-preserved invariant-loop decreases-loop
-loop-again c = reached-more c.before.before.before.before.before.loop.invariant _ (omega arith) (omega arith) c.before.width_of_lem.ensures (omega arith)
+loop-again c = reached_more c.before.before.before.before.before.loop.invariant _ (omega arith) (omega arith) c.before.width_of_lem.ensures (omega arith)
 
 returns-3 : tie.Need-returns-3 invariant-loop decreases-loop
-returns-3 c = sym (reached-all c.before.loop.invariant c.loop-test.false)
+returns-3 c = sym (reached_all c.before.loop.invariant c.loop-test.false)
 
 pub extent-of-spec : {M : Type 1} → statement M
 extent-of-spec =

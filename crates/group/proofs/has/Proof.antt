@@ -5,7 +5,7 @@ use Prim.Native.Nat.{◌-◌, ◌≤◌}
 use mathlib.Core.Path.{sym}
 use lib.ListN.{length}
 use Rattle.model.specs.Groups.{among}
-use Rattle.group.proofs.Walk.{Goes, goes-start, goes_end, has-it, has-not, short-not}
+use Rattle.group.proofs.Walk.{Goes, goes_start, goes_end, has_it, has_not, short_not}
 use Rattle.group.proofs.has.Statement.{statement}
 use Rattle.group.proofs.has.Tie as tie
 
@@ -16,7 +16,7 @@ abbrev decreases-loop : tie.decreases-loop
 decreases-loop plan bytes unit length at₀ at = length - at
 
 loop-holds : tie.Need-loop-init invariant-loop decreases-loop
-loop-holds c = (omega arith, goes-start _ _ _)
+loop-holds c = (omega arith, goes_start _ _ _)
 
 shared-slice-read-member : tie.Need-shared-slice-read-member invariant-loop decreases-loop
 shared-slice-read-member c = search rules
@@ -25,7 +25,7 @@ cast-member : tie.Need-overflow-cast-member invariant-loop decreases-loop
 cast-member c = omega (arith, c.shared-slice-known2.given c.before.before.loop.at)
 
 returns : tie.Need-returns invariant-loop decreases-loop
-returns c = has-it c.before.before.before.loop.invariant.1 (omega arith) c.if1.true
+returns c = has_it c.before.before.before.loop.invariant.1 (omega arith) c.if1.true
 
 width-of-requires : tie.Need-width-of-requires invariant-loop decreases-loop
 width-of-requires c κs = search rules
@@ -37,7 +37,7 @@ sub-if2 : tie.Need-overflow-sub-if2 invariant-loop decreases-loop
 sub-if2 c = search rules
 
 returns-2 : tie.Need-returns-2 invariant-loop decreases-loop
-returns-2 c = short-not c.before.before.before.before.before.loop.invariant.1 _ (omega arith) c.before.width_of_lem.ensures (omega arith)
+returns-2 c = short_not c.before.before.before.before.before.loop.invariant.1 _ (omega arith) c.before.width_of_lem.ensures (omega arith)
 
 add_at : tie.Need-overflow-add-at invariant-loop decreases-loop
 add_at c = search rules
@@ -49,7 +49,7 @@ loop-less : tie.Need-loop-smaller invariant-loop decreases-loop
 loop-less c = search rules
 
 loop-again : tie.Need-loop-preserved invariant-loop decreases-loop
-loop-again c = (omega arith, has-not c.before.before.before.before.before.loop.invariant.1 _ (omega arith) c.before.before.if1.false c.before.width_of_lem.ensures)
+loop-again c = (omega arith, has_not c.before.before.before.before.before.loop.invariant.1 _ (omega arith) c.before.before.if1.false c.before.width_of_lem.ensures)
 
 returns-3 : tie.Need-returns-3 invariant-loop decreases-loop
 unfolding among

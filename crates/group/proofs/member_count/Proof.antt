@@ -3,7 +3,7 @@ use borrow.Author.Rules.{rules}
 use native.Mathlib.Omega.{arith}
 use Prim.Native.Nat.{◌-◌, ◌≤◌}
 use mathlib.Core.Path.{sym}
-use Rattle.group.proofs.Count.{Walked, walked_none, walked-no-unit, walked-short, walked_more, walked_many, walked-few, walked-is}
+use Rattle.group.proofs.Count.{Walked, walked_none, walked_no_unit, walked_short, walked_more, walked_many, walked_few, walked_is}
 use Rattle.group.proofs.member_count.Statement.{statement}
 use Rattle.group.proofs.member_count.Tie as tie
 
@@ -23,7 +23,7 @@ cast-unit : tie.Need-overflow-cast-unit invariant-loop decreases-loop
 cast-unit c = omega (arith, c.shared-slice-known2.given c.before.before.loop.at)
 
 returns : tie.Need-returns invariant-loop decreases-loop
-returns c = sym (walked-no-unit c.before.before.before.before.loop.invariant.2 (omega arith) c.if1.true)
+returns c = sym (walked_no_unit c.before.before.before.before.loop.invariant.2 (omega arith) c.if1.true)
 
 width-of-requires : tie.Need-width-of-requires invariant-loop decreases-loop
 width-of-requires c κs = search rules
@@ -35,7 +35,7 @@ sub-if2 : tie.Need-overflow-sub-if2 invariant-loop decreases-loop
 sub-if2 c = search rules
 
 returns-2 : tie.Need-returns-2 invariant-loop decreases-loop
-returns-2 c = sym (walked-short c.before.before.before.before.before.before.loop.invariant.2 (omega arith) (omega (arith, c.before.width_of_lem.ensures)))
+returns-2 c = sym (walked_short c.before.before.before.before.before.before.loop.invariant.2 (omega arith) (omega (arith, c.before.width_of_lem.ensures)))
 
 add_at : tie.Need-overflow-add-at invariant-loop decreases-loop
 add_at c = search rules
@@ -56,10 +56,10 @@ loop-again : tie.Need-loop-preserved invariant-loop decreases-loop
 loop-again c = (omega arith, omega arith, walked_more c.before.before.before.before.before.before.before.loop.invariant.2 _ (omega arith) (omega arith) c.before.before.width_of_lem.ensures (omega arith))
 
 returns-4 : tie.Need-returns-4 invariant-loop decreases-loop
-returns-4 c = sym (walked-few c.before.before.loop.invariant.2 (omega arith) c.if4.true)
+returns-4 c = sym (walked_few c.before.before.loop.invariant.2 (omega arith) c.if4.true)
 
 returns-5 : tie.Need-returns-5 invariant-loop decreases-loop
-returns-5 c = sym (walked-is c.before.before.loop.invariant.2 (omega arith) (omega arith) (omega arith))
+returns-5 c = sym (walked_is c.before.before.loop.invariant.2 (omega arith) (omega arith) (omega arith))
 
 pub member-count-spec : {M : Type 1} → statement M
 member-count-spec =

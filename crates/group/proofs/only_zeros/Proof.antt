@@ -7,7 +7,7 @@ use mathlib.Core.Path.{◌≡◌, ap, sym, ◌∙◌}
 use lib.ListN.{length, replicate, drop}
 use borrow.Author.Tests.{ne_eqb, eq-eqb}
 use Rattle.model.specs.Groups.{alike}
-use Rattle.group.proofs.Extent.{zeros-more, zeros-end}
+use Rattle.group.proofs.Extent.{zeros_more, zeros_end}
 use Rattle.group.proofs.only_zeros.Statement.{statement}
 use Rattle.group.proofs.only_zeros.Tie as tie
 
@@ -24,7 +24,7 @@ shared-slice-read-if1 : tie.Need-shared-slice-read-if1 invariant-loop decreases-
 shared-slice-read-if1 c = search rules
 
 returns : tie.Need-returns invariant-loop decreases-loop
-returns c = let g = c.before.before.before.before.args.bytes.now in let l = c.before.before.before.loop in sym (l.invariant.1 ∙ zeros-more g l.at (omega arith) ∙ rw (ne_eqb 0 _ (λ e. c.if1.true (sym e))))
+returns c = let g = c.before.before.before.before.args.bytes.now in let l = c.before.before.before.loop in sym (l.invariant.1 ∙ zeros_more g l.at (omega arith) ∙ rw (ne_eqb 0 _ (λ e. c.if1.true (sym e))))
 
 add_at : tie.Need-overflow-add-at invariant-loop decreases-loop
 add_at c = search rules
@@ -33,10 +33,10 @@ loop-less : tie.Need-loop-smaller invariant-loop decreases-loop
 loop-less c = search rules
 
 loop-again : tie.Need-loop-preserved invariant-loop decreases-loop
-loop-again c = let g = c.before.before.before.before.args.bytes.now in let l = c.before.before.before.loop in (omega arith, l.invariant.1 ∙ zeros-more g l.at (omega arith) ∙ rw (eq-eqb 0 _ (sym c.if1.false)))
+loop-again c = let g = c.before.before.before.before.args.bytes.now in let l = c.before.before.before.loop in (omega arith, l.invariant.1 ∙ zeros_more g l.at (omega arith) ∙ rw (eq-eqb 0 _ (sym c.if1.false)))
 
 returns-2 : tie.Need-returns-2 invariant-loop decreases-loop
-returns-2 c = let l = c.before.loop in sym (l.invariant.1 ∙ zeros-end c.before.before.args.bytes.now l.at (omega arith))
+returns-2 c = let l = c.before.loop in sym (l.invariant.1 ∙ zeros_end c.before.before.args.bytes.now l.at (omega arith))
 
 pub only-zeros-spec : {M : Type 1} → statement M
 only-zeros-spec =

@@ -1,5 +1,5 @@
 -- `group::record_of` meets its contract: the count, and the group behind it.
-use Rattle.group.proofs.Record.{record-made}
+use Rattle.group.proofs.Record.{record_made}
 use borrow.Author.Rules.{rules}
 use Rattle.group.proofs.record_of.Statement.{statement}
 use Rattle.group.proofs.record_of.Tie as tie
@@ -26,7 +26,7 @@ array-write-held : tie.Need-array-write-held
 array-write-held c = search rules
 
 returns : tie.Need-returns
-returns c = record-made _ _ c.member-count.ensures c.before.before.fill.ensures
+returns c = record_made _ _ c.member-count.ensures c.before.before.fill.ensures
 
 pub record-of-spec : {M : Type 1} → statement M
 record-of-spec =

@@ -1,5 +1,5 @@
 -- `group::stands` meets its contract: the code finds the group that gives the record, if there is one.
-use Rattle.group.proofs.Record.{reach-small, record-none, record-fault, record-count, record-rest}
+use Rattle.group.proofs.Record.{reach_small, record_none, record_fault, record_count, record_rest}
 use native.Mathlib.Omega.{arith}
 use Prim.Native.Nat.{◌-◌, ◌<◌}
 use lib.ListN.{length}
@@ -8,7 +8,7 @@ use Rattle.group.proofs.stands.Statement.{statement}
 use Rattle.group.proofs.stands.Tie as tie
 
 returns : tie.Need-returns
-returns c = record-none c.before.before.args.plan c.before.before.args.bytes.now c.before.before.requires.1 c.before.before.requires.0 c.if1.true
+returns c = record_none c.before.before.args.plan c.before.before.args.bytes.now c.before.before.requires.1 c.before.before.requires.0 c.if1.true
 
 shared-slice-read-members : tie.Need-shared-slice-read-members
 shared-slice-read-members c = search rules
@@ -29,7 +29,7 @@ extent-of-requires : tie.Need-extent-of-requires
 extent-of-requires c κs = search rules
 
 add-past : tie.Need-overflow-add-past
-add-past c = omega (arith, reach-small c.before.before.before.before.before.args.plan c.before.before.before.before.before.args.bytes.now _ c.extent-of.ensures)
+add-past c = omega (arith, reach_small c.before.before.before.before.before.args.plan c.before.before.before.before.before.args.bytes.now _ c.extent-of.ensures)
 
 sub-group-fault : tie.Need-overflow-sub-group-fault
 sub-group-fault c = search rules
@@ -38,13 +38,13 @@ part-group-fault-start : tie.Need-slice-bounds-group-fault-start
 part-group-fault-start c = search rules
 
 part-group-fault-end : tie.Need-slice-bounds-group-fault-end
-part-group-fault-end c = omega (arith, reach-small c.before.before.before.before.before.args.plan c.before.before.before.before.before.args.bytes.now _ c.extent-of.ensures)
+part-group-fault-end c = omega (arith, reach_small c.before.before.before.before.before.args.plan c.before.before.before.before.before.args.bytes.now _ c.extent-of.ensures)
 
 group-fault-requires : tie.Need-group-fault-requires
 group-fault-requires c κs = search rules
 
 returns-2 : tie.Need-returns-2
-returns-2 c = record-fault c.before.before.before.before.before.before.before.before.args.plan c.before.before.before.before.before.before.before.before.args.bytes.now c.before.before.before.before.before.before.before.before.requires.1 c.before.before.before.before.before.before.before.before.requires.0 c.before.before.before.extent-of.ensures c.before.group-fault.ensures c.if2.true
+returns-2 c = record_fault c.before.before.before.before.before.before.before.before.args.plan c.before.before.before.before.before.before.before.before.args.bytes.now c.before.before.before.before.before.before.before.before.requires.1 c.before.before.before.before.before.before.before.before.requires.0 c.before.before.before.extent-of.ensures c.before.group_fault_lem.ensures c.if2.true
 
 sub-member-count : tie.Need-overflow-sub-member-count
 sub-member-count c = search rules
@@ -53,22 +53,22 @@ part-member-count-start : tie.Need-slice-bounds-member-count-start
 part-member-count-start c = search rules
 
 part-member-count-end : tie.Need-slice-bounds-member-count-end
-part-member-count-end c = omega (arith, reach-small c.before.before.before.before.before.before.before.before.args.plan c.before.before.before.before.before.before.before.before.args.bytes.now _ c.before.before.before.extent-of.ensures)
+part-member-count-end c = omega (arith, reach_small c.before.before.before.before.before.before.before.before.args.plan c.before.before.before.before.before.before.before.before.args.bytes.now _ c.before.before.before.extent-of.ensures)
 
 member-count-requires : tie.Need-member-count-requires
 member-count-requires c κs = search rules
 
 returns-3 : tie.Need-returns-3
-returns-3 c = record-count c.before.before.before.before.before.before.before.before.before.before.before.args.plan c.before.before.before.before.before.before.before.before.before.before.before.args.bytes.now c.before.before.before.before.before.before.before.before.before.before.before.requires.1 c.before.before.before.before.before.before.before.before.before.before.before.requires.0 c.before.before.before.before.before.before.extent-of.ensures c.before.member-count.ensures c.if3.true
+returns-3 c = record_count c.before.before.before.before.before.before.before.before.before.before.before.args.plan c.before.before.before.before.before.before.before.before.before.before.before.args.bytes.now c.before.before.before.before.before.before.before.before.before.before.before.requires.1 c.before.before.before.before.before.before.before.before.before.before.before.requires.0 c.before.before.before.before.before.before.extent-of.ensures c.before.member-count.ensures c.if3.true
 
 sub-only-zeros : tie.Need-overflow-sub-only-zeros
-sub-only-zeros c = omega (arith, reach-small c.before.before.before.before.before.before.before.before.before.before.before.args.plan c.before.before.before.before.before.before.before.before.before.before.before.args.bytes.now _ c.before.before.before.before.before.before.extent-of.ensures)
+sub-only-zeros c = omega (arith, reach_small c.before.before.before.before.before.before.before.before.before.before.before.args.plan c.before.before.before.before.before.before.before.before.before.before.before.args.bytes.now _ c.before.before.before.before.before.before.extent-of.ensures)
 
 part-only-zeros-start : tie.Need-slice-bounds-only-zeros-start
-part-only-zeros-start c = omega (arith, reach-small c.before.before.before.before.before.before.before.before.before.before.before.args.plan c.before.before.before.before.before.before.before.before.before.before.before.args.bytes.now _ c.before.before.before.before.before.before.extent-of.ensures)
+part-only-zeros-start c = omega (arith, reach_small c.before.before.before.before.before.before.before.before.before.before.before.args.plan c.before.before.before.before.before.before.before.before.before.before.before.args.bytes.now _ c.before.before.before.before.before.before.extent-of.ensures)
 
 part-only-zeros-end : tie.Need-slice-bounds-only-zeros-end
-part-only-zeros-end c = omega (arith, reach-small c.before.before.before.before.before.before.before.before.before.before.before.args.plan c.before.before.before.before.before.before.before.before.before.before.before.args.bytes.now _ c.before.before.before.before.before.before.extent-of.ensures)
+part-only-zeros-end c = omega (arith, reach_small c.before.before.before.before.before.before.before.before.before.before.before.args.plan c.before.before.before.before.before.before.before.before.before.before.before.args.bytes.now _ c.before.before.before.before.before.before.extent-of.ensures)
 
 only-zeros-requires : tie.Need-only-zeros-requires
 only-zeros-requires c κs = search rules
@@ -76,7 +76,7 @@ only-zeros-requires c κs = search rules
 returns-4 : tie.Need-returns-4
 returns-4 c = let bs = c.before.before.before.before.before.before.before.before.before.before.before.before.before.args.bytes.now in
     let some : 0 < length bs = omega arith in
-    record-rest c.before.before.before.before.before.before.before.before.before.before.before.before.before.args.plan bs c.before.before.before.before.before.before.before.before.before.before.before.before.before.requires.1 c.before.before.before.before.before.before.before.before.before.before.before.before.before.requires.0 c.before.before.before.before.before.before.before.before.extent-of.ensures some c.before.before.before.before.before.before.group-fault.ensures c.before.before.before.before.before.if2.false c.before.before.before.member-count.ensures c.before.before.if3.false c.only-zeros.ensures
+    record_rest c.before.before.before.before.before.before.before.before.before.before.before.before.before.args.plan bs c.before.before.before.before.before.before.before.before.before.before.before.before.before.requires.1 c.before.before.before.before.before.before.before.before.before.before.before.before.before.requires.0 c.before.before.before.before.before.before.before.before.extent-of.ensures some c.before.before.before.before.before.before.group_fault_lem.ensures c.before.before.before.before.before.if2.false c.before.before.before.member-count.ensures c.before.before.if3.false c.only-zeros.ensures
 
 pub stands-spec : {M : Type 1} → statement M
 stands-spec =

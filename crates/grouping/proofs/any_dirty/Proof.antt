@@ -5,8 +5,8 @@ use Prim.Native.Nat.{ℕ, ◌-◌, ◌≤◌}
 use mathlib.Core.Path.{sym}
 use Rattle.model.specs.Layout.{marker, get}
 use Rattle.model.specs.Refusals.{dirty}
-use Rattle.group.proofs.Walk.{Goes, goes-start, goes_end, short-not}
-use Rattle.grouping.proofs.Laws.{no-unit, dirty-it, dirty-not}
+use Rattle.group.proofs.Walk.{Goes, goes_start, goes_end, short_not}
+use Rattle.grouping.proofs.Laws.{no_unit_lem, dirty_it, dirty_not}
 use Rattle.grouping.proofs.any_dirty.Statement.{statement}
 use Rattle.grouping.proofs.any_dirty.Tie as tie
 
@@ -17,7 +17,7 @@ abbrev decreases-loop : tie.decreases-loop
 decreases-loop plan image bytes size at₀ at = size - at
 
 loop-holds : tie.Need-loop-init invariant-loop decreases-loop
-loop-holds c = (omega arith, goes-start _ _ _)
+loop-holds c = (omega arith, goes_start _ _ _)
 
 shared-slice-read-unit : tie.Need-shared-slice-read-unit invariant-loop decreases-loop
 shared-slice-read-unit c = search rules
@@ -26,13 +26,13 @@ cast-unit : tie.Need-overflow-cast-unit invariant-loop decreases-loop
 cast-unit c = omega (arith, c.shared-slice-known3.given c.before.before.loop.at)
 
 returns : tie.Need-returns invariant-loop decreases-loop
-returns c = no-unit _ c.before.before.before.before.loop.invariant.1 (omega arith) c.if1.true
+returns c = no_unit_lem _ c.before.before.before.before.loop.invariant.1 (omega arith) c.if1.true
 
 marker-number-requires : tie.Need-marker-number-requires invariant-loop decreases-loop
 marker-number-requires c κs = (c.before.before.before.before.before.before.before.requires.0, c.before.before.before.before.before.before.before.requires.1, omega (arith, c.if1.false))
 
 returns-2 : tie.Need-returns-2 invariant-loop decreases-loop
-returns-2 c = dirty-it _ c.before.before.before.before.before.before.loop.invariant.1 (omega arith) c.before.marker-number.ensures c.if2.true
+returns-2 c = dirty_it _ c.before.before.before.before.before.before.loop.invariant.1 (omega arith) c.before.marker-number.ensures c.if2.true
 
 width-of-requires : tie.Need-width-of-requires invariant-loop decreases-loop
 width-of-requires c κs = search rules
@@ -44,7 +44,7 @@ sub-if3 : tie.Need-overflow-sub-if3 invariant-loop decreases-loop
 sub-if3 c = search rules
 
 returns-3 : tie.Need-returns-3 invariant-loop decreases-loop
-returns-3 c = short-not c.before.before.before.before.before.before.before.before.loop.invariant.1 _ (omega arith) c.before.width_of_lem.ensures (omega arith)
+returns-3 c = short_not c.before.before.before.before.before.before.before.before.loop.invariant.1 _ (omega arith) c.before.width_of_lem.ensures (omega arith)
 
 add_at : tie.Need-overflow-add-at invariant-loop decreases-loop
 add_at c = search rules
@@ -56,7 +56,7 @@ loop-less : tie.Need-loop-smaller invariant-loop decreases-loop
 loop-less c = search rules
 
 loop-again : tie.Need-loop-preserved invariant-loop decreases-loop
-loop-again c = (omega arith, dirty-not _ c.before.before.before.before.before.before.before.before.loop.invariant.1 _ (omega arith) c.before.before.before.marker-number.ensures c.before.before.if2.false c.before.width_of_lem.ensures)
+loop-again c = (omega arith, dirty_not _ c.before.before.before.before.before.before.before.before.loop.invariant.1 _ (omega arith) c.before.before.before.marker-number.ensures c.before.before.if2.false c.before.width_of_lem.ensures)
 
 returns-4 : tie.Need-returns-4 invariant-loop decreases-loop
 unfolding dirty

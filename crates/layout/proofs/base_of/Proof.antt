@@ -4,7 +4,7 @@ use native.Mathlib.Omega.{arith}
 use mathlib.Core.Path.{◌≡◌, sym, ap, ◌∙◌}
 use Prim.Native.Nat.{◌≤◌, ◌-◌, ◌*◌}
 use Rattle.model.specs.Layout.{base}
-use Rattle.layout.proofs.Laws.{base_more, base-none}
+use Rattle.layout.proofs.Laws.{base_more, base_none}
 use Rattle.layout.proofs.base_of.Statement.{statement}
 use Rattle.layout.proofs.base_of.Tie as tie
 
@@ -15,7 +15,7 @@ abbrev decreases-loop : tie.decreases-loop
 decreases-loop plan unit sum₀ i₀ sum i = unit - i
 
 loop-holds : tie.Need-loop-init invariant-loop decreases-loop
-loop-holds c = (omega arith, sym (base-none c.args.plan), omega arith)
+loop-holds c = (omega arith, sym (base_none c.args.plan), omega arith)
 
 unit-length-requires : tie.Need-unit-length-requires invariant-loop decreases-loop
 unit-length-requires c κs = c.before.before.requires

@@ -2,7 +2,7 @@
 use borrow.Author.Rules.{rules}
 use mathlib.Core.Path.{sym, ◌∙◌}
 use lib.Seq.{length-take-le}
-use Rattle.model.proofs.RefusalLaws.{start-says}
+use Rattle.model.proofs.RefusalLaws.{start_says}
 use Rattle.looks.proofs.play_text.Statement.{statement}
 use Rattle.looks.proofs.play_text.Tie as tie
 
@@ -34,7 +34,7 @@ returns : tie.Need-returns
 returns c = search rules
 
 base-of-requires : tie.Need-base-of-requires
-base-of-requires c κs = (start-says c.before.before.plan-of.result (sym c.before.plan-number.ensures ∙ c.if1.false)).page
+base-of-requires c κs = (start_says c.before.before.plan-of.result (sym c.before.plan-number.ensures ∙ c.if1.false)).page
 
 returns-2 : tie.Need-returns-2
 returns-2 c = search rules

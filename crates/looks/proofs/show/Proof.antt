@@ -2,7 +2,7 @@
 use borrow.Author.Rules.{rules}
 use Prim.Native.Nat.{◌-◌, ◌≤◌}
 use mathlib.Core.Path.{sym, ◌∙◌}
-use Rattle.model.proofs.RefusalLaws.{start-says}
+use Rattle.model.proofs.RefusalLaws.{start_says}
 use Rattle.looks.proofs.show.Statement.{statement}
 use Rattle.looks.proofs.show.Tie as tie
 
@@ -19,7 +19,7 @@ returns : tie.Need-returns invariant-loop decreases-loop
 returns c = search rules
 
 base-of-requires : tie.Need-base-of-requires invariant-loop decreases-loop
-base-of-requires c κs = (start-says c.before.before.before.args.plan (sym c.before.plan-number.ensures ∙ c.if1.false)).page
+base-of-requires c κs = (start_says c.before.before.before.args.plan (sym c.before.plan-number.ensures ∙ c.if1.false)).page
 
 returns-2 : tie.Need-returns-2 invariant-loop decreases-loop
 returns-2 c = search rules

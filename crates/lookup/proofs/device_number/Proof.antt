@@ -3,11 +3,11 @@ use native.Mathlib.Omega.{arith}
 use mathlib.Core.Path.{sym, ◌∙◌}
 use borrow.Author.Tests.{lt-ltb}
 use Rattle.model.specs.Layout.{total}
-use Rattle.model.specs.Refusals.{badJob, startNumber}
-use Rattle.model.proofs.RefusalLaws.{first-refused, first-stop, plan-passed}
-use Rattle.model.proofs.GroupLaws.{last-lt}
-use Rattle.model.proofs.RefusalLaws.{start-says, width-bounds}
-use Rattle.lookup.proofs.Laws.{no-job, writing-job, cleaning-job, grouping-job}
+use Rattle.model.specs.Refusals.{bad_job, start_number}
+use Rattle.model.proofs.RefusalLaws.{first_refused, first_stop, plan_passed}
+use Rattle.model.proofs.GroupLaws.{last_lt}
+use Rattle.model.proofs.RefusalLaws.{start_says, width_bounds}
+use Rattle.lookup.proofs.Laws.{no_job, writing_job, cleaning_job, grouping_job}
 use borrow.Author.Rules.{rules}
 use Rattle.lookup.proofs.device_number.Statement.{statement}
 use Rattle.lookup.proofs.device_number.Tie as tie
@@ -19,15 +19,15 @@ cast-total : tie.Need-overflow-cast-total
 cast-total c = search rules
 
 returns : tie.Need-returns
-unfolding startNumber
-returns c = let n = c.before.before.measure.ensures.number in n ∙ sym (first-refused _ _ (λ e. c.if1.true (n ∙ e)))
+unfolding start_number
+returns c = let n = c.before.before.measure.ensures.number in n ∙ sym (first_refused _ _ (λ e. c.if1.true (n ∙ e)))
 
 returns-2 : tie.Need-returns-2
 returns-2 c = let a = c.before.before.before.before.args in
     let m = c.before.before.before.measure.ensures in
     let z = c.before.if1.false in
-    sym (plan-passed a.plan _ (sym m.number ∙ z)
-    ∙ first-stop 3 _ _ (lt-ltb a.length (total a.plan) (omega (arith, c.if2.true, m.total z))))
+    sym (plan_passed a.plan _ (sym m.number ∙ z)
+    ∙ first_stop 3 _ _ (lt-ltb a.length (total a.plan) (omega (arith, c.if2.true, m.total z))))
 
 enum_told : tie.Need-enum-told
 enum_told c = search rules
@@ -74,40 +74,40 @@ enum-known-phase-3 c = search rules
 group-number-requires : tie.Need-group-number-requires
 group-number-requires c κs = let p = c.before.before.before.before.before.before.before.args.plan in
     let m = c.before.before.before.before.before.before.measure.ensures in
-    let ok = start-says p (sym m.number ∙ c.before.before.before.before.if1.false) in
-    (width-bounds p ok _ (last-lt p ok)).1
+    let ok = start_says p (sym m.number ∙ c.before.before.before.before.if1.false) in
+    (width_bounds p ok _ (last_lt p ok)).1
 
 returns-3 : tie.Need-returns-3
-unfolding badJob
+unfolding bad_job
 returns-3 c = let a = c.before.before.before.before.before.before.args in
     let m = c.before.before.before.before.before.measure.ensures in
     let z = c.before.before.before.if1.false in
-    no-job a.plan a.payload.now a.phase a.length _ _ m.number z (m.total z) c.before.before.if2.false (rw c.enum_told.given.1)
+    no_job a.plan a.payload.now a.phase a.length _ _ m.number z (m.total z) c.before.before.if2.false (rw c.enum_told.given.1)
 
 returns-4 : tie.Need-returns-4
-unfolding badJob
+unfolding bad_job
 returns-4 c = let a = c.before.before.before.before.before.before.args in
     let m = c.before.before.before.before.before.measure.ensures in
     let z = c.before.before.before.if1.false in
-    no-job a.plan a.payload.now a.phase a.length _ _ m.number z (m.total z) c.before.before.if2.false (rw c.enum-told2.given.1)
+    no_job a.plan a.payload.now a.phase a.length _ _ m.number z (m.total z) c.before.before.if2.false (rw c.enum-told2.given.1)
 
 returns-5 : tie.Need-returns-5
 returns-5 c = let a = c.before.before.before.before.before.before.before.before.before.args in
     let m = c.before.before.before.before.before.before.before.before.measure.ensures in
     let z = c.before.before.before.before.before.before.if1.false in
-    writing-job a.plan a.payload.now a.phase a.length _ _ m.number z (m.total z) c.before.before.before.before.before.if2.false _ _ _ _ c.before.width_of_lem.ensures c.before.before.before.phase.given.1 c.job-number.ensures
+    writing_job a.plan a.payload.now a.phase a.length _ _ m.number z (m.total z) c.before.before.before.before.before.if2.false _ _ _ _ c.before.width_of_lem.ensures c.before.before.before.phase.given.1 c.job-number.ensures
 
 returns-6 : tie.Need-returns-6
 returns-6 c = let a = c.before.before.before.before.before.before.before.before.before.args in
     let m = c.before.before.before.before.before.before.before.before.measure.ensures in
     let z = c.before.before.before.before.before.before.if1.false in
-    cleaning-job a.plan a.payload.now a.phase a.length _ _ m.number z (m.total z) c.before.before.before.before.before.if2.false _ _ _ _ c.before.width-of2.ensures _ c.before.before.before.phase2.given.1 c.job-number2.ensures
+    cleaning_job a.plan a.payload.now a.phase a.length _ _ m.number z (m.total z) c.before.before.before.before.before.if2.false _ _ _ _ c.before.width-of2.ensures _ c.before.before.before.phase2.given.1 c.job-number2.ensures
 
 returns-7 : tie.Need-returns-7
 returns-7 c = let a = c.before.before.before.before.before.before.before.before.args in
     let m = c.before.before.before.before.before.before.before.measure.ensures in
     let z = c.before.before.before.before.before.if1.false in
-    grouping-job a.plan a.payload.now a.phase a.length _ _ m.number z (m.total z) c.before.before.before.before.if2.false _ _ _ c.before.before.phase3.given.1 c.group-number.ensures
+    grouping_job a.plan a.payload.now a.phase a.length _ _ m.number z (m.total z) c.before.before.before.before.if2.false _ _ _ c.before.before.phase3.given.1 c.group-number.ensures
 
 pub device-number-spec : {M : Type 1} → statement M
 device-number-spec =

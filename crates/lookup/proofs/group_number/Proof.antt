@@ -1,5 +1,5 @@
 -- `lookup::group_number` meets its contract: no such write, or all its stores made.
-use Rattle.lookup.proofs.Laws.{no_part, all_made, not_made}
+use Rattle.lookup.proofs.Laws.{no_part, all_made_lem, not_made}
 use borrow.Author.Rules.{rules}
 use Rattle.lookup.proofs.group_number.Statement.{statement}
 use Rattle.lookup.proofs.group_number.Tie as tie
@@ -23,7 +23,7 @@ add-if2 : tie.Need-overflow-add-if2
 add-if2 c = search rules
 
 returns-2 : tie.Need-returns-2
-returns-2 c = all_made c.before.before.before.part_of.ensures _ _ c.before.before.if1.false c.before.width_of_lem.ensures c.if2.true
+returns-2 c = all_made_lem c.before.before.before.part_of.ensures _ _ c.before.before.if1.false c.before.width_of_lem.ensures c.if2.true
 
 returns-3 : tie.Need-returns-3
 returns-3 c = not_made c.before.before.before.part_of.ensures _ _ c.before.before.if1.false c.before.width_of_lem.ensures c.if2.false

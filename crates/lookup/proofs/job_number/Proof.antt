@@ -3,23 +3,23 @@ use mathlib.Core.Path.{sym, ◌∙◌}
 use mathlib.Core.List.{[]}
 use native.Mathlib.Omega.{arith}
 use borrow.Author.Tests.{le-leb, lt-leb}
-use Rattle.model.proofs.RefusalLaws.{first-stop, first-skip, first-none}
+use Rattle.model.proofs.RefusalLaws.{first_stop, first_skip, first_none}
 use Rattle.lookup.proofs.job_number.Statement.{statement}
 use Rattle.lookup.proofs.job_number.Tie as tie
 
 returns : tie.Need-returns
 returns c = let a = c.before.before.args in
-    sym (first-stop 4 _ [] (simp (le-leb a.plan.count a.unit (omega (arith, c.if1.true)))))
+    sym (first_stop 4 _ [] (simp (le-leb a.plan.count a.unit (omega (arith, c.if1.true)))))
 
 returns-2 : tie.Need-returns-2
 returns-2 c = let a = c.before.before.before.args in
-    sym (first-stop 4 _ []
+    sym (first_stop 4 _ []
     (simp (lt-leb a.plan.count a.unit (omega (arith, c.before.if1.false)), le-leb a.total a.made (omega (arith, c.if2.true)))))
 
 returns-3 : tie.Need-returns-3
 returns-3 c = let a = c.before.before.before.args in
-    sym (first-skip 4 _ []
-    (simp (lt-leb a.plan.count a.unit (omega (arith, c.before.if1.false)), lt-leb a.total a.made (omega (arith, c.if2.false)))) ∙ first-none)
+    sym (first_skip 4 _ []
+    (simp (lt-leb a.plan.count a.unit (omega (arith, c.before.if1.false)), lt-leb a.total a.made (omega (arith, c.if2.false)))) ∙ first_none)
 
 pub job-number-spec : {M : Type 1} → statement M
 job-number-spec = tie.close (tie.spec returns returns-2 returns-3)

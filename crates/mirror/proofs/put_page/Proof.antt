@@ -6,7 +6,7 @@ use mathlib.Core.List.{List}
 use Prim.Native.Nat.{ℕ, suc, ◌+◌, ◌-◌, ◌≤◌}
 use lib.ListN.{length, take, drop, set, get_or, length-set}
 use lib.Seq.{sets}
-use Rattle.mirror.proofs.Part.{tear-more, tear-all}
+use Rattle.mirror.proofs.Part.{tear_more, tear_all}
 use Rattle.mirror.proofs.put_page.Statement.{statement}
 use Rattle.mirror.proofs.put_page.Tie as tie
 
@@ -41,7 +41,7 @@ loop-less c = search rules
 loop-again : tie.Need-loop-preserved invariant-loop decreases-loop
 loop-again c = let a = c.before.before.before.args in
     let r = c.before.before.loop in
-    let more = tear-more (set a.span.now a.from a.first) a.page.now a.from r.i r.invariant.0 c.before.loop-test.true in (
+    let more = tear_more (set a.span.now a.from a.first) a.page.now a.from r.i r.invariant.0 c.before.loop-test.true in (
       omega arith,
       omega (arith, c.before.loop-test.true),
       length-set r.span (a.from + r.i) (get_or a.page.now r.i 0) ∙ r.invariant.2,
@@ -55,7 +55,7 @@ same_length c = let a = c.before.before.args in
 returns : tie.Need-returns invariant-loop decreases-loop
 returns c = let a = c.before.before.args in
     let r = c.before.loop in
-    r.invariant.3 ∙ tear-all (set a.span.now a.from a.first) a.page.now a.from r.i c.loop-test.false
+    r.invariant.3 ∙ tear_all (set a.span.now a.from a.first) a.page.now a.from r.i c.loop-test.false
 
 pub put-page-spec : {M : Type 1} → statement M
 put-page-spec =

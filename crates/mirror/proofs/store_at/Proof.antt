@@ -4,7 +4,7 @@ use mathlib.Core.Path.{ap, ◌∙◌}
 use mathlib.Core.List.{List, ◌++◌}
 use Prim.Native.Nat.{ℕ, ◌+◌, ◌-◌}
 use lib.ListN.{take, drop}
-use Rattle.mirror.proofs.Part.{set-part}
+use Rattle.mirror.proofs.Part.{set_part}
 use borrow.Author.Rules.{rules}
 use Rattle.mirror.proofs.store_at.Statement.{statement}
 use Rattle.mirror.proofs.store_at.Tie as tie
@@ -36,7 +36,7 @@ returns c = let a = c.before.before.before.before.before.before.before.args in
     let s = a.span in
     let size = s.end - s.base in
     ap (λ (t : List ℕ). take s.base xs ++ (t ++ drop size (drop s.base xs))) c.before.before.put.ensures
-    ∙ set-part xs s.base size a.at a.byte (omega (arith, c.before.before.before.before.before.before.before.requires)) (omega (arith, c.before.before.before.before.before.before.before.requires))
+    ∙ set_part xs s.base size a.at a.byte (omega (arith, c.before.before.before.before.before.before.before.requires)) (omega (arith, c.before.before.before.before.before.before.before.requires))
 
 pub store-at-spec : {M : Type 1} → statement M
 store-at-spec =

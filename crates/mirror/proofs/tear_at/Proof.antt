@@ -6,9 +6,9 @@ use mathlib.Core.List.{List, ◌∷◌, ◌++◌}
 use Prim.Native.Nat.{ℕ, ◌+◌, ◌-◌}
 use lib.ListN.{get_or, take, drop, length-drop}
 use lib.Seq.{sets}
-use Rattle.layout.proofs.Laws.{page-by-mask}
-use Rattle.mirror.specs.Tears.{firstLeft}
-use Rattle.mirror.proofs.Part.{sets-part}
+use Rattle.layout.proofs.Laws.{page_by_mask}
+use Rattle.mirror.specs.Tears.{first_left}
+use Rattle.mirror.proofs.Part.{sets_part}
 use borrow.Author.Rules.{rules}
 use Rattle.mirror.proofs.tear_at.Statement.{statement}
 use Rattle.mirror.proofs.tear_at.Tie as tie
@@ -33,7 +33,7 @@ add-torn-byte c = search rules
 
 slice-read-torn-byte : tie.Need-slice-read-torn-byte
 slice-read-torn-byte c = let a = c.before.before.before.before.before.before.args in
-    omega (arith, page-by-mask a.span.a a.at c.before.before.before.before.before.before.requires.0.page, c.before.before.before.before.before.before.requires.0.marker, c.before.before.before.before.before.before.requires.2, c.before.before.before.before.before.before.requires.3)
+    omega (arith, page_by_mask a.span.a a.at c.before.before.before.before.before.before.requires.0.page, c.before.before.before.before.before.before.requires.0.marker, c.before.before.before.before.before.before.requires.2, c.before.before.before.before.before.before.requires.3)
 
 shared-slice-read-torn-byte : tie.Need-shared-slice-read-torn-byte
 shared-slice-read-torn-byte c = search rules
@@ -52,7 +52,7 @@ part-put-page-end c = search rules
 
 put-page-requires : tie.Need-put-page-requires
 put-page-requires c κs = let a = c.before.before.before.before.before.before.before.before.before.args in
-    let e = page-by-mask a.span.a a.at c.before.before.before.before.before.before.before.before.before.requires.0.page in
+    let e = page_by_mask a.span.a a.at c.before.before.before.before.before.before.before.before.before.requires.0.page in
     (omega (arith, c.before.before.before.before.before.before.before.before.before.requires.0.marker, c.before.before.before.before.before.before.before.before.before.requires.1), omega (arith, e, c.before.before.before.before.before.before.before.before.before.requires.1, c.before.before.before.before.before.before.before.before.before.requires.2, c.before.before.before.before.before.before.before.before.before.requires.3, c.put-page-arg.given))
 
 same_length : tie.Need-same-length
@@ -63,10 +63,10 @@ returns c = let a = c.before.before.before.before.before.before.before.before.be
     let xs = a.image.now in
     let s = a.span in
     let size = s.end - s.base in
-    let e = page-by-mask s.a a.at c.before.before.before.before.before.before.before.before.before.before.before.before.requires.0.page in
+    let e = page_by_mask s.a a.at c.before.before.before.before.before.before.before.before.before.before.before.before.requires.0.page in
     ap (λ (t : List ℕ). take s.base xs ++ (t ++ drop size (drop s.base xs))) c.before.before.put-page.ensures
-    ∙ sets-part (_ ∷ drop 1 a.page.now) xs s.base size (a.at - bit_and a.at (s.a - 1)) (omega (arith, c.before.before.before.before.before.before.before.before.before.before.before.before.requires.2, c.before.before.before.before.before.before.before.before.before.before.before.before.requires.3)) (omega (arith, e, length-drop 1 a.page.now, c.before.before.before.before.before.before.before.before.before.before.before.before.requires.0.marker, c.before.before.before.before.before.before.before.before.before.before.before.before.requires.1, c.before.before.before.before.before.before.before.before.before.before.before.before.requires.2))
-    ∙ ap₂ (λ (q x : ℕ). sets xs (s.base + q) (x ∷ drop 1 a.page.now)) e (c.before.before.before.before.torn-byte.ensures ∙ ap (λ (q : ℕ). firstLeft a.at (get_or xs (s.base + q) 0) a.byte (get_or a.page.now 0 0)) e)
+    ∙ sets_part (_ ∷ drop 1 a.page.now) xs s.base size (a.at - bit_and a.at (s.a - 1)) (omega (arith, c.before.before.before.before.before.before.before.before.before.before.before.before.requires.2, c.before.before.before.before.before.before.before.before.before.before.before.before.requires.3)) (omega (arith, e, length-drop 1 a.page.now, c.before.before.before.before.before.before.before.before.before.before.before.before.requires.0.marker, c.before.before.before.before.before.before.before.before.before.before.before.before.requires.1, c.before.before.before.before.before.before.before.before.before.before.before.before.requires.2))
+    ∙ ap₂ (λ (q x : ℕ). sets xs (s.base + q) (x ∷ drop 1 a.page.now)) e (c.before.before.before.before.torn-byte.ensures ∙ ap (λ (q : ℕ). first_left a.at (get_or xs (s.base + q) 0) a.byte (get_or a.page.now 0 0)) e)
 
 pub tear-at-spec : {M : Type 1} → statement M
 tear-at-spec =

@@ -6,7 +6,7 @@ use lib.Seq.{length-sets}
 use borrow.Author.Rules.{rules}
 use Rattle.model.specs.Calls.{cut}
 use Rattle.store.specs.Modelled.{modelled}
-use Rattle.play.proofs.Listed.{front_length, with-listed}
+use Rattle.play.proofs.Listed.{front_length, with_listed}
 use Rattle.play.proofs.cut.Statement.{statement}
 use Rattle.play.proofs.cut.Tie as tie
 
@@ -31,7 +31,7 @@ same_length c = search rules
 returns : tie.Need-returns
 returns c =
     let a = c.before.before.before.before.before.before.before.before.before.before.args in
-    with-listed (λ (t : List ℕ). cut (modelled a.device) a.image.now t) a.line.now _ _ a.at a.count
+    with_listed (λ (t : List ℕ). cut (modelled a.device) a.image.now t) a.line.now _ _ a.at a.count
     c.before.before.before.before.before.before.bytes-into.ensures (omega arith) c.before.before.cut.ensures
 
 pub cut_spec : {M : Type 1} → statement M

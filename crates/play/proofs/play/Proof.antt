@@ -2,7 +2,7 @@
 use mathlib.Core.Path.{refl, ◌∙◌, ap}
 use borrow.Author.Rules.{rules}
 use Rattle.script.specs.declared.Line.TheVariants.{Is}
-use Rattle.script.proofs.Counts.{write-count, cut-count}
+use Rattle.script.proofs.Counts.{write_count, cut_count}
 use Rattle.play.specs.Plays.{plays}
 use Rattle.play.proofs.Told.{told}
 use Rattle.play.proofs.play.Statement.{statement}
@@ -18,7 +18,7 @@ slice-aggregate-tell : tie.Need-slice-aggregate-tell
 slice-aggregate-tell c = search rules
 
 write-requires : tie.Need-write-requires
-write-requires c κs = write-count _ _ _ _ (c.before.before.before.before.before.before.before.before.requires.0 ∙ ap Is c.before.before.before.form.given.1)
+write-requires c κs = write_count _ _ _ _ (c.before.before.before.before.before.before.before.before.requires.0 ∙ ap Is c.before.before.before.form.given.1)
 
 tell-requires : tie.Need-tell-requires
 tell-requires c κs = search rules
@@ -42,7 +42,7 @@ slice-aggregate-tell-3 : tie.Need-slice-aggregate-tell-3
 slice-aggregate-tell-3 c = search rules
 
 cut-requires : tie.Need-cut-requires
-cut-requires c κs = cut-count _ _ _ (c.before.before.before.before.before.before.before.before.requires.0 ∙ ap Is c.before.before.before.form3.given.1)
+cut-requires c κs = cut_count _ _ _ (c.before.before.before.before.before.before.before.before.requires.0 ∙ ap Is c.before.before.before.form3.given.1)
 
 tell-requires-3 : tie.Need-tell-requires-3
 tell-requires-3 c κs = search rules

@@ -4,8 +4,8 @@ use native.Mathlib.Omega.{arith}
 use mathlib.Core.Path.{sym}
 use lib.Seq.{length-take-le}
 use borrow.Author.Rules.{rules}
-use Rattle.model.proofs.RefusalLaws.{start-says}
-use Rattle.play.proofs.Bounds.{total-most}
+use Rattle.model.proofs.RefusalLaws.{start_says}
+use Rattle.play.proofs.Bounds.{total_most}
 use Rattle.play.proofs.play_plan.Statement.{statement}
 use Rattle.play.proofs.play_plan.Tie as tie
 
@@ -31,18 +31,18 @@ returns : tie.Need-returns
 returns c = search rules
 
 base-of-requires : tie.Need-base-of-requires
-base-of-requires c κs = (start-says _ (c.before.before.before.before.before.before.before.before.before.before.before.«open».ensures c.before.if1.false)).page
+base-of-requires c κs = (start_says _ (c.before.before.before.before.before.before.before.before.before.before.before.«open».ensures c.before.if1.false)).page
 
 slice-relend-prefix-play-lines : tie.Need-slice-relend-prefix-play-lines
-slice-relend-prefix-play-lines c = omega (arith, c.base-of.ensures.0, total-most _ (c.before.before.before.before.before.before.before.before.before.before.before.before.«open».ensures c.before.before.if1.false))
+slice-relend-prefix-play-lines c = omega (arith, c.base-of.ensures.0, total_most _ (c.before.before.before.before.before.before.before.before.before.before.before.before.«open».ensures c.before.before.if1.false))
 
 slice-aggregate-play-lines : tie.Need-slice-aggregate-play-lines
-slice-aggregate-play-lines c = sym (length-take-le _ _ (omega (arith, c.before.base-of.ensures.0, total-most _ (c.before.before.before.before.before.before.before.before.before.before.before.before.before.«open».ensures c.before.before.before.if1.false))))
+slice-aggregate-play-lines c = sym (length-take-le _ _ (omega (arith, c.before.base-of.ensures.0, total_most _ (c.before.before.before.before.before.before.before.before.before.before.before.before.before.«open».ensures c.before.before.before.if1.false))))
 
 play-lines-requires : tie.Need-play-lines-requires
 play-lines-requires c κs =
     let ok = c.before.before.before.before.before.before.before.before.before.before.before.before.before.before.«open».ensures c.before.before.before.before.if1.false in
-    (search rules, search rules, search rules, (ok, simp length-take (omega (arith, c.before.before.base-of.ensures.0, total-most _ ok))), search rules)
+    (search rules, search rules, search rules, (ok, simp length-take (omega (arith, c.before.before.base-of.ensures.0, total_most _ ok))), search rules)
 
 same-length-3 : tie.Need-same-length-3
 same-length-3 c = search rules

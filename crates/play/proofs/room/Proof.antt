@@ -2,7 +2,7 @@
 use native.Mathlib.Omega.{arith}
 use borrow.Author.Tests.{lt-ltb, le-ltb}
 use borrow.Author.Rules.{rules}
-use Rattle.play.specs.Plays.{placeFor}
+use Rattle.play.specs.Plays.{place_for}
 use Rattle.play.proofs.room.Statement.{statement}
 use Rattle.play.proofs.room.Tie as tie
 
@@ -13,11 +13,11 @@ flush-requires : tie.Need-flush-requires
 flush-requires c κs = search rules
 
 returns : tie.Need-returns
-unfolding placeFor
+unfolding place_for
 returns c = (simp (lt-ltb _ _ c.before.if1.true), omega arith)
 
 returns-2 : tie.Need-returns-2
-unfolding placeFor
+unfolding place_for
 returns-2 c = (simp (le-ltb _ _ c.if1.false), omega arith)
 
 pub room-spec : {M : Type 1} → statement M

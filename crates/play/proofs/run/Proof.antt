@@ -3,7 +3,7 @@ use native.Mathlib.Omega.{arith}
 use mathlib.Core.Path.{sym, ◌∙◌, ap}
 use borrow.Author.Rules.{rules}
 use Rattle.script.specs.declared.Line.TheVariants.{Is}
-use Rattle.script.proofs.Counts.{plan-count}
+use Rattle.script.proofs.Counts.{plan_count}
 use Rattle.reader.proofs.Found.{read_found}
 use Rattle.play.proofs.run.Statement.{statement}
 use Rattle.play.proofs.run.Tie as tie
@@ -71,7 +71,7 @@ widths-at-requires c κs = search rules
 cast-t24 : tie.Need-overflow-cast-t24
 cast-t24 c =
     let f = read_found _ _ _ _ _ (sym c.before.before.before.before.before.before.before.before.read-line.ensures ∙ c.before.before.before.before.before.before.read.given.1) in
-    let few = plan-count _ _ _ _ (f.says ∙ ap Is c.before.before.before.form.given.1) in
+    let few = plan_count _ _ _ _ (f.says ∙ ap Is c.before.before.before.form.given.1) in
     search rules
 
 service-rights-requires : tie.Need-service-rights-requires

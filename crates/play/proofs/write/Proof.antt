@@ -7,7 +7,7 @@ use borrow.Author.Rules.{rules}
 use Rattle.model.specs.declared.Role.TheVariants.{Service}
 use Rattle.model.specs.Calls.{begin}
 use Rattle.store.specs.Modelled.{modelled}
-use Rattle.play.proofs.Listed.{front_length, with-listed}
+use Rattle.play.proofs.Listed.{front_length, with_listed}
 use Rattle.play.proofs.write.Statement.{statement}
 use Rattle.play.proofs.write.Tie as tie
 
@@ -29,7 +29,7 @@ begin-requires c κs = search rules
 returns : tie.Need-returns
 returns c =
     let a = c.before.before.before.before.before.before.before.args in
-    with-listed (λ (t : List ℕ). begin (modelled a.device) a.image.now Service a.unit t) a.line.now _ _ a.at a.count
+    with_listed (λ (t : List ℕ). begin (modelled a.device) a.image.now Service a.unit t) a.line.now _ _ a.at a.count
     c.before.before.before.bytes-into.ensures (omega arith) c.begin.ensures
 
 pub write_spec : {M : Type 1} → statement M

@@ -1,7 +1,7 @@
 -- `printing::put_answer` meets its contract: the word and the number, then LF.
 use native.Mathlib.Omega.{arith}
 use borrow.Author.Rules.{rules}
-use Rattle.printing.specs.Printed.{answerLine}
+use Rattle.printing.specs.Printed.{answer_line}
 use Rattle.text.proofs.Laws.{wrote_then}
 use Rattle.printing.proofs.put_answer.Statement.{statement}
 use Rattle.printing.proofs.put_answer.Tie as tie
@@ -16,7 +16,7 @@ same_length : tie.Need-same-length
 same_length c = search rules
 
 returns : tie.Need-returns
-unfolding answerLine
+unfolding answer_line
 returns c = (wrote_then c.before.before.before.before.before.before.put-numbered.ensures.0 c.before.before.put.ensures, omega (arith, c.before.before.put.ensures.place))
 
 pub put-answer-spec : {M : Type 1} → statement M

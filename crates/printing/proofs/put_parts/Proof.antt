@@ -1,7 +1,7 @@
 -- `printing::put_parts` meets its contract: the five pieces one after the other.
 use native.Mathlib.Omega.{arith}
 use borrow.Author.Rules.{rules}
-use Rattle.printing.specs.Printed.{unitText}
+use Rattle.printing.specs.Printed.{unit_text}
 use Rattle.text.proofs.Laws.{wrote_then}
 use Rattle.printing.proofs.put_parts.Statement.{statement}
 use Rattle.printing.proofs.put_parts.Tie as tie
@@ -40,7 +40,7 @@ same_length : tie.Need-same-length
 same_length c = search rules
 
 returns : tie.Need-returns
-unfolding unitText
+unfolding unit_text
 returns c = (wrote_then (wrote_then (wrote_then (wrote_then c.before.before.before.before.before.before.before.before.before.before.before.before.before.before.before.before.before.before.before.before.before.before.put-numbered.ensures.0 c.before.before.before.before.before.before.before.before.before.before.before.before.before.before.before.before.before.put-list.ensures.0) c.before.before.before.before.before.before.before.before.before.before.before.before.put-list2.ensures.0) c.before.before.before.before.before.before.before.put-list3.ensures.0) c.before.before.put-text.ensures, omega arith)
 
 pub put-parts-spec : {M : Type 1} → statement M

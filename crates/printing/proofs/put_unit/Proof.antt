@@ -4,7 +4,7 @@ use native.Mathlib.Nat.{add-sub_cancel_left}
 use lib.ListN.{length-take}
 use borrow.Author.Rules.{rules}
 use Rattle.text.proofs.Laws.{wrote_as}
-use Rattle.printing.proofs.Laws.{looked, unit-parts}
+use Rattle.printing.proofs.Laws.{looked, unit_parts}
 use Rattle.printing.proofs.put_unit.Statement.{statement}
 use Rattle.printing.proofs.put_unit.Tie as tie
 
@@ -92,7 +92,7 @@ returns c =
     let a = c.before.before.before.before.before.before.before.before.before.before.before.before.before.before.args in
     let pre = c.before.before.before.before.before.before.before.before.before.before.before.before.before.before.requires in
     let q = looked a.plan a.image.now a.unit _ pre.1 pre.2 pre.3 c.before.before.before.before.before.before.before.before.before.before.before.Span-of.ensures in (
-      wrote_as (unit-parts a.plan a.image.now a.unit _ _ _ q (omega arith) (omega arith)) c.before.before.put-parts.ensures.0,
+      wrote_as (unit_parts a.plan a.image.now a.unit _ _ _ q (omega arith) (omega arith)) c.before.before.put-parts.ensures.0,
       omega (arith, simp (add-sub_cancel_left, length-take) at c.before.before.put-parts.ensures.1, q.sound.narrow),
     )
 

@@ -3,13 +3,13 @@ use native.Mathlib.Omega.{arith}
 use lib.ListN.{length}
 use borrow.Author.Rules.{rules}
 use borrow.Author.Tests.{lt-ltb, le-ltb}
-use Rattle.token.specs.Lines.{lineEnd, line_at}
-use Rattle.reader.specs.Read.{read_of, readAt}
+use Rattle.token.specs.Lines.{line_end, line_at}
+use Rattle.reader.specs.Read.{read_of, read_at}
 use Rattle.reader.proofs.read_at.Statement.{statement}
 use Rattle.reader.proofs.read_at.Tie as tie
 
 returns : tie.Need-returns
-unfolding readAt
+unfolding read_at
 returns c = let a = c.before.before.args in
     simp (le-ltb a.at (length a.text.now) (omega (arith, c.if1.true)))
 
@@ -35,12 +35,12 @@ enum_told : tie.Need-enum-told
 enum_told c = search rules
 
 returns-2 : tie.Need-returns-2
-unfolding readAt read_of line_at lineEnd
+unfolding read_at read_of line_at line_end
 returns-2 c = let a = c.before.before.before.before.before.before.before.before.args in
     simp (lt-ltb a.at (length a.text.now) (omega (arith, c.before.before.before.before.before.before.if1.false)), ← c.before.before.before.before.before.find.ensures.0, ← c.before.before.before.form_of.ensures, c.before.line.given.1)
 
 returns-3 : tie.Need-returns-3
-unfolding readAt read_of line_at lineEnd
+unfolding read_at read_of line_at line_end
 returns-3 c = let a = c.before.before.before.before.before.before.before.args in
     simp (lt-ltb a.at (length a.text.now) (omega (arith, c.before.before.before.before.before.if1.false)), ← c.before.before.before.before.find.ensures.0, ← c.before.before.form_of.ensures, c.enum_told.given.1)
 

@@ -6,9 +6,9 @@ use lib.ListN.{length}
 use borrow.Author.Tests.{le-leb, lt-leb, eq-eqb, ne_eqb}
 use Rattle.lookup.proofs.Laws.{room}
 use Rattle.model.specs.Layout.{width}
-use Rattle.model.specs.Refusals.{beginNumber}
-use Rattle.model.proofs.RefusalLaws.{first-stop, first-skip}
-use Rattle.refusal.proofs.Laws.{phase-refused, phase-passed, live}
+use Rattle.model.specs.Refusals.{begin_number}
+use Rattle.model.proofs.RefusalLaws.{first_stop, first_skip}
+use Rattle.refusal.proofs.Laws.{phase_refused, phase_passed, live}
 use borrow.Author.Rules.{rules}
 use Rattle.refusal.proofs.begin_number.Statement.{statement}
 use Rattle.refusal.proofs.begin_number.Tie as tie
@@ -22,36 +22,36 @@ ready-number-requires : tie.Need-ready-number-requires
 ready-number-requires c κs = search rules
 
 returns : tie.Need-returns
-unfolding beginNumber
+unfolding begin_number
 returns c = let a = c.before.before.before.args in
-    phase-refused a.plan a.held.now a.phase (length a.image.now) _ _ c.before.ready-number.ensures refl c.if1.true _
+    phase_refused a.plan a.held.now a.phase (length a.image.now) _ _ c.before.ready-number.ensures refl c.if1.true _
 
 returns-2 : tie.Need-returns-2
-unfolding beginNumber
+unfolding begin_number
 returns-2 c = let a = c.before.before.before.before.before.args in
-    sym (phase-passed a.plan a.held.now a.phase (length a.image.now) _ _ c.before.before.before.ready-number.ensures refl c.before.before.if1.false _
-    ∙ first-stop 6 _ _ (le-leb a.plan.count a.unit (omega (arith, c.if2.true))))
+    sym (phase_passed a.plan a.held.now a.phase (length a.image.now) _ _ c.before.before.before.ready-number.ensures refl c.before.before.if1.false _
+    ∙ first_stop 6 _ _ (le-leb a.plan.count a.unit (omega (arith, c.if2.true))))
 
 is-record-requires : tie.Need-is-record-requires
 is-record-requires c κs = search rules
 
 returns-3 : tie.Need-returns-3
-unfolding beginNumber
+unfolding begin_number
 returns-3 c = let a = c.before.before.before.before.before.before.before.args in
-    sym (phase-passed a.plan a.held.now a.phase (length a.image.now) _ _ c.before.before.before.before.before.ready-number.ensures refl c.before.before.before.before.if1.false _
-    ∙ first-skip 6 _ _ (lt-leb a.plan.count a.unit (omega (arith, c.before.before.if2.false)))
-    ∙ first-stop 20 _ _ (sym c.before.is-record.ensures ∙ c.if3.true))
+    sym (phase_passed a.plan a.held.now a.phase (length a.image.now) _ _ c.before.before.before.before.before.ready-number.ensures refl c.before.before.before.before.if1.false _
+    ∙ first_skip 6 _ _ (lt-leb a.plan.count a.unit (omega (arith, c.before.before.if2.false)))
+    ∙ first_stop 20 _ _ (sym c.before.is-record.ensures ∙ c.if3.true))
 
 may-write-requires : tie.Need-may-write-requires
 may-write-requires c κs = search rules
 
 returns-4 : tie.Need-returns-4
-unfolding beginNumber
+unfolding begin_number
 returns-4 c = let a = c.before.before.before.before.before.before.before.before.before.args in
-    sym (phase-passed a.plan a.held.now a.phase (length a.image.now) _ _ c.before.before.before.before.before.before.before.ready-number.ensures refl c.before.before.before.before.before.before.if1.false _
-    ∙ first-skip 6 _ _ (lt-leb a.plan.count a.unit (omega (arith, c.before.before.before.before.if2.false)))
-    ∙ first-skip 20 _ _ (sym c.before.before.before.is-record.ensures ∙ c.before.before.if3.false)
-    ∙ first-stop 22 _ _ (ap not (sym c.before.may-write.ensures) ∙ c.if4.true))
+    sym (phase_passed a.plan a.held.now a.phase (length a.image.now) _ _ c.before.before.before.before.before.before.before.ready-number.ensures refl c.before.before.before.before.before.before.if1.false _
+    ∙ first_skip 6 _ _ (lt-leb a.plan.count a.unit (omega (arith, c.before.before.before.before.if2.false)))
+    ∙ first_skip 20 _ _ (sym c.before.before.before.is-record.ensures ∙ c.before.before.if3.false)
+    ∙ first_stop 22 _ _ (ap not (sym c.before.may_write_lem.ensures) ∙ c.if4.true))
 
 width-of-requires : tie.Need-width-of-requires
 width-of-requires c κs = search rules
@@ -60,13 +60,13 @@ cast-if5 : tie.Need-overflow-cast-if5
 cast-if5 c = search rules
 
 returns-5 : tie.Need-returns-5
-unfolding beginNumber
+unfolding begin_number
 returns-5 c = let a = c.before.before.before.before.before.before.before.before.before.before.before.args in
-    sym (phase-passed a.plan a.held.now a.phase (length a.image.now) _ _ c.before.before.before.before.before.before.before.before.before.ready-number.ensures refl c.before.before.before.before.before.before.before.before.if1.false _
-    ∙ first-skip 6 _ _ (lt-leb a.plan.count a.unit (omega (arith, c.before.before.before.before.before.before.if2.false)))
-    ∙ first-skip 20 _ _ (sym c.before.before.before.before.before.is-record.ensures ∙ c.before.before.before.before.if3.false)
-    ∙ first-skip 22 _ _ (ap not (sym c.before.before.before.may-write.ensures) ∙ c.before.before.if4.false)
-    ∙ first-stop 7 _ _ (ap not (ne_eqb a.size (width a.plan a.unit) (λ q. absurd (omega (arith, c.if5.true, c.before.width_of_lem.ensures, q))))))
+    sym (phase_passed a.plan a.held.now a.phase (length a.image.now) _ _ c.before.before.before.before.before.before.before.before.before.ready-number.ensures refl c.before.before.before.before.before.before.before.before.if1.false _
+    ∙ first_skip 6 _ _ (lt-leb a.plan.count a.unit (omega (arith, c.before.before.before.before.before.before.if2.false)))
+    ∙ first_skip 20 _ _ (sym c.before.before.before.before.before.is-record.ensures ∙ c.before.before.before.before.if3.false)
+    ∙ first_skip 22 _ _ (ap not (sym c.before.before.before.may_write_lem.ensures) ∙ c.before.before.if4.false)
+    ∙ first_stop 7 _ _ (ap not (ne_eqb a.size (width a.plan a.unit) (λ q. absurd (omega (arith, c.if5.true, c.before.width_of_lem.ensures, q))))))
 
 marker-number-requires : tie.Need-marker-number-requires
 marker-number-requires c κs = let a = c.before.before.before.before.before.before.before.before.before.before.before.args in
@@ -74,13 +74,13 @@ marker-number-requires c κs = let a = c.before.before.before.before.before.befo
     (r.ok, r.long, omega (arith, c.before.before.before.before.before.before.if2.false))
 
 returns-6 : tie.Need-returns-6
-unfolding beginNumber
+unfolding begin_number
 returns-6 c = let a = c.before.before.before.before.before.before.before.before.before.before.before.before.args in
-    sym (phase-passed a.plan a.held.now a.phase (length a.image.now) _ _ c.before.before.before.before.before.before.before.before.before.before.ready-number.ensures refl c.before.before.before.before.before.before.before.before.before.if1.false _
-    ∙ first-skip 6 _ _ (lt-leb a.plan.count a.unit (omega (arith, c.before.before.before.before.before.before.before.if2.false)))
-    ∙ first-skip 20 _ _ (sym c.before.before.before.before.before.before.is-record.ensures ∙ c.before.before.before.before.before.if3.false)
-    ∙ first-skip 22 _ _ (ap not (sym c.before.before.before.before.may-write.ensures) ∙ c.before.before.before.if4.false)
-    ∙ first-skip 7 _ _ (ap not (eq-eqb a.size (width a.plan a.unit) (omega (arith, c.before.if5.false, c.before.before.width_of_lem.ensures))))
+    sym (phase_passed a.plan a.held.now a.phase (length a.image.now) _ _ c.before.before.before.before.before.before.before.before.before.before.ready-number.ensures refl c.before.before.before.before.before.before.before.before.before.if1.false _
+    ∙ first_skip 6 _ _ (lt-leb a.plan.count a.unit (omega (arith, c.before.before.before.before.before.before.before.if2.false)))
+    ∙ first_skip 20 _ _ (sym c.before.before.before.before.before.before.is-record.ensures ∙ c.before.before.before.before.before.if3.false)
+    ∙ first_skip 22 _ _ (ap not (sym c.before.before.before.before.may_write_lem.ensures) ∙ c.before.before.before.if4.false)
+    ∙ first_skip 7 _ _ (ap not (eq-eqb a.size (width a.plan a.unit) (omega (arith, c.before.if5.false, c.before.before.width_of_lem.ensures))))
     ∙ sym c.marker-number.ensures)
 
 pub begin-number-spec : {M : Type 1} → statement M

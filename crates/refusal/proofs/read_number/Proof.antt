@@ -5,9 +5,9 @@ use mathlib.Core.Bool.{not}
 use lib.ListN.{length}
 use borrow.Author.Tests.{le-leb, lt-leb}
 use Rattle.lookup.proofs.Laws.{room}
-use Rattle.model.specs.Refusals.{readNumber}
-use Rattle.model.proofs.RefusalLaws.{first-stop, first-skip}
-use Rattle.refusal.proofs.Laws.{phase-refused, phase-passed, live}
+use Rattle.model.specs.Refusals.{read_number}
+use Rattle.model.proofs.RefusalLaws.{first_stop, first_skip}
+use Rattle.refusal.proofs.Laws.{phase_refused, phase_passed, live}
 use borrow.Author.Rules.{rules}
 use Rattle.refusal.proofs.read_number.Statement.{statement}
 use Rattle.refusal.proofs.read_number.Tie as tie
@@ -19,25 +19,25 @@ ready-number-requires : tie.Need-ready-number-requires
 ready-number-requires c κs = search rules
 
 returns : tie.Need-returns
-unfolding readNumber
+unfolding read_number
 returns c = let a = c.before.before.before.args in
-    phase-refused a.plan a.payload.now a.phase (length a.image.now) _ _ c.before.ready-number.ensures refl c.if1.true _
+    phase_refused a.plan a.payload.now a.phase (length a.image.now) _ _ c.before.ready-number.ensures refl c.if1.true _
 
 returns-2 : tie.Need-returns-2
-unfolding readNumber
+unfolding read_number
 returns-2 c = let a = c.before.before.before.before.before.args in
-    sym (phase-passed a.plan a.payload.now a.phase (length a.image.now) _ _ c.before.before.before.ready-number.ensures refl c.before.before.if1.false _
-    ∙ first-stop 6 _ _ (le-leb a.plan.count a.unit (omega (arith, c.if2.true))))
+    sym (phase_passed a.plan a.payload.now a.phase (length a.image.now) _ _ c.before.before.before.ready-number.ensures refl c.before.before.if1.false _
+    ∙ first_stop 6 _ _ (le-leb a.plan.count a.unit (omega (arith, c.if2.true))))
 
 may-see-requires : tie.Need-may-see-requires
 may-see-requires c κs = search rules
 
 returns-3 : tie.Need-returns-3
-unfolding readNumber
+unfolding read_number
 returns-3 c = let a = c.before.before.before.before.before.before.before.args in
-    sym (phase-passed a.plan a.payload.now a.phase (length a.image.now) _ _ c.before.before.before.before.before.ready-number.ensures refl c.before.before.before.before.if1.false _
-    ∙ first-skip 6 _ _ (lt-leb a.plan.count a.unit (omega (arith, c.before.before.if2.false)))
-    ∙ first-stop 22 _ _ (ap not (sym c.before.may-see.ensures) ∙ c.if3.true))
+    sym (phase_passed a.plan a.payload.now a.phase (length a.image.now) _ _ c.before.before.before.before.before.ready-number.ensures refl c.before.before.before.before.if1.false _
+    ∙ first_skip 6 _ _ (lt-leb a.plan.count a.unit (omega (arith, c.before.before.if2.false)))
+    ∙ first_stop 22 _ _ (ap not (sym c.before.may_see_lem.ensures) ∙ c.if3.true))
 
 marker-number-requires : tie.Need-marker-number-requires
 marker-number-requires c κs = let a = c.before.before.before.before.before.before.before.args in
@@ -45,11 +45,11 @@ marker-number-requires c κs = let a = c.before.before.before.before.before.befo
     (r.ok, r.long, omega (arith, c.before.before.if2.false))
 
 returns-4 : tie.Need-returns-4
-unfolding readNumber
+unfolding read_number
 returns-4 c = let a = c.before.before.before.before.before.before.before.before.args in
-    sym (phase-passed a.plan a.payload.now a.phase (length a.image.now) _ _ c.before.before.before.before.before.before.ready-number.ensures refl c.before.before.before.before.before.if1.false _
-    ∙ first-skip 6 _ _ (lt-leb a.plan.count a.unit (omega (arith, c.before.before.before.if2.false)))
-    ∙ first-skip 22 _ _ (ap not (sym c.before.before.may-see.ensures) ∙ c.before.if3.false)
+    sym (phase_passed a.plan a.payload.now a.phase (length a.image.now) _ _ c.before.before.before.before.before.before.ready-number.ensures refl c.before.before.before.before.before.if1.false _
+    ∙ first_skip 6 _ _ (lt-leb a.plan.count a.unit (omega (arith, c.before.before.before.if2.false)))
+    ∙ first_skip 22 _ _ (ap not (sym c.before.before.may_see_lem.ensures) ∙ c.before.if3.false)
     ∙ sym c.marker-number.ensures)
 
 pub read-number-spec : {M : Type 1} → statement M

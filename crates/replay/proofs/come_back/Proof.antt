@@ -1,5 +1,5 @@
 -- `replay::come_back` meets its contract: the steps are the repair's, and more.
-use Rattle.recovery.proofs.Lived.{came-back}
+use Rattle.recovery.proofs.Lived.{came_back}
 use borrow.Author.Rules.{rules}
 use Rattle.replay.proofs.come_back.Statement.{statement}
 use Rattle.replay.proofs.come_back.Tie as tie
@@ -18,7 +18,7 @@ same_length c = search rules
 
 returns : tie.Need-returns
 returns c = let a = c.before.before.before.before.before.before.before.before.args in
-    came-back a.plan a.image.now 65535 _ _ _ _ c.before.before.before.before.before.before.start.ensures c.before.before.before.before.wake.ensures c.before.before.steps.ensures
+    came_back a.plan a.image.now 65535 _ _ _ _ c.before.before.before.before.before.before.start.ensures c.before.before.before.before.wake.ensures c.before.before.steps.ensures
 
 pub come-back-spec : {M : Type 1} → statement M
 come-back-spec =

@@ -7,7 +7,7 @@ use lib.ListN.{length}
 use Rattle.model.specs.Calls.{outcome}
 use Rattle.model.specs.PowerCut.{run}
 use Rattle.store.specs.Modelled.{modelled}
-use Rattle.recovery.specs.Encoding.{callsFrom}
+use Rattle.recovery.specs.Encoding.{calls_from}
 use Rattle.recovery.proofs.Laws.{ended, stopped, turn, ends}
 use Rattle.replay.proofs.replay.Statement.{statement}
 use Rattle.replay.proofs.replay.Tie as tie
@@ -15,7 +15,7 @@ use Rattle.replay.proofs.replay.Tie as tie
 abbrev invariant-loop : tie.invariant-loop
 invariant-loop image₀ calls held₀ number₀ at₀ image held number at =
     (at ≤ length calls) × (length image ≡ length image₀)
-    × (run (callsFrom at calls) (outcome number (modelled held) image) ≡ run (callsFrom 0 calls) (outcome 0 (modelled held₀) image₀))
+    × (run (calls_from at calls) (outcome number (modelled held) image) ≡ run (calls_from 0 calls) (outcome 0 (modelled held₀) image₀))
 
 abbrev decreases-loop : tie.decreases-loop
 decreases-loop image₀ calls held₀ number₀ at₀ image held number at = length calls - at

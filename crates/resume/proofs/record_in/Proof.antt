@@ -1,7 +1,7 @@
 -- `resume::record_in` meets its contract: the part that is copy A of the last unit.
 use native.Mathlib.Omega.{arith}
-use Rattle.lookup.proofs.Laws.{copy-part}
-use Rattle.resume.proofs.Laws.{record-looked}
+use Rattle.lookup.proofs.Laws.{copy_part}
+use Rattle.resume.proofs.Laws.{record_looked}
 use borrow.Author.Rules.{rules}
 use Rattle.resume.proofs.record_in.Statement.{statement}
 use Rattle.resume.proofs.record_in.Tie as tie
@@ -14,7 +14,7 @@ span-of-requires c κs = search rules
 
 add_start : tie.Need-overflow-add-start
 add_start c = let a = c.before.before.before.before.args in
-    let q = record-looked a.plan c.before.before.before.before.requires.0 a.image.now c.before.before.before.before.requires.1 c.before.before.last_of.ensures c.before.Span-of.ensures in
+    let q = record_looked a.plan c.before.before.before.before.requires.0 a.image.now c.before.before.before.before.requires.1 c.before.before.last_of.ensures c.before.Span-of.ensures in
     record { fits = omega (arith, q.sound) }
 
 cast-start : tie.Need-overflow-cast-start
@@ -34,13 +34,13 @@ part-result-start c = search rules
 
 part-result-end : tie.Need-slice-bounds-result-end
 part-result-end c = let a = c.before.before.before.before.before.args in
-    let q = record-looked a.plan c.before.before.before.before.before.requires.0 a.image.now c.before.before.before.before.before.requires.1 c.before.before.before.last_of.ensures c.before.before.Span-of.ensures in
+    let q = record_looked a.plan c.before.before.before.before.before.requires.0 a.image.now c.before.before.before.before.before.requires.1 c.before.before.before.last_of.ensures c.before.before.Span-of.ensures in
     omega (arith, q.sound, q.inside)
 
 returns : tie.Need-returns
 returns c = let a = c.before.before.before.before.before.before.args in
-    let q = record-looked a.plan c.before.before.before.before.before.before.requires.0 a.image.now c.before.before.before.before.before.before.requires.1 c.before.before.before.before.last_of.ensures c.before.before.before.Span-of.ensures in
-    copy-part a.plan a.image.now _ _ q.is
+    let q = record_looked a.plan c.before.before.before.before.before.before.requires.0 a.image.now c.before.before.before.before.before.before.requires.1 c.before.before.before.before.last_of.ensures c.before.before.before.Span-of.ensures in
+    copy_part a.plan a.image.now _ _ q.is
 
 pub record-in-spec : {M : Type 1} → statement M
 record-in-spec =

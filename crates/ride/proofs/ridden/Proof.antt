@@ -2,9 +2,9 @@
 use native.Mathlib.Omega.{arith}
 use mathlib.Core.Path.{ap, ◌∙◌}
 use Prim.Native.Nat.{ℕ, ◌+◌}
-use Rattle.model.specs.Turns.{inBytes, plus}
+use Rattle.model.specs.Turns.{in_bytes, plus}
 use Rattle.model.specs.Calls.{padded}
-use Rattle.ride.proofs.Laws.{eight-from}
+use Rattle.ride.proofs.Laws.{eight_from}
 use borrow.Author.Rules.{rules}
 use Rattle.ride.proofs.ridden.Statement.{statement}
 use Rattle.ride.proofs.ridden.Tie as tie
@@ -26,7 +26,7 @@ amount-of-requires c κs = search rules
 
 add-bytes-of : tie.Need-overflow-add-bytes-of
 add-bytes-of c = let a = c.before.before.before.args in
-    record { fits = omega (arith, c.amount-of.ensures, eight-from a.page a.image.now, c.before.before.before.requires.1) }
+    record { fits = omega (arith, c.amount-of.ensures, eight_from a.page a.image.now, c.before.before.before.requires.1) }
 
 bytes-of-requires : tie.Need-bytes-of-requires
 bytes-of-requires c κs = search rules
@@ -40,7 +40,7 @@ zero-filled-requires c κs = search rules
 returns : tie.Need-returns
 unfolding plus
 returns c = let a = c.before.before.before.before.before.before.args in
-    c.zero-filled.ensures ∙ ap padded (c.before.before.bytes_of.ensures ∙ ap (λ (n : ℕ). inBytes 8 (n + a.turns)) (c.before.before.before.amount-of.ensures ∙ eight-from a.page a.image.now))
+    c.zero-filled.ensures ∙ ap padded (c.before.before.bytes_of.ensures ∙ ap (λ (n : ℕ). in_bytes 8 (n + a.turns)) (c.before.before.before.amount-of.ensures ∙ eight_from a.page a.image.now))
 
 pub ridden-spec : {M : Type 1} → statement M
 ridden-spec =

@@ -2,7 +2,7 @@
 use borrow.Author.Rules.{rules}
 use mathlib.Core.Path.{ap, ◌∙◌}
 use Rattle.token.specs.Token.{entry_at}
-use Rattle.row.proofs.Row.{known-form}
+use Rattle.row.proofs.Row.{known_form}
 use Rattle.row.proofs.entries_at.Statement.{statement}
 use Rattle.row.proofs.entries_at.Tie as tie
 
@@ -23,7 +23,7 @@ word-requires-2 c κs = search rules
 
 returns : tie.Need-returns
 returns c l formed = let line = c.before.before.before.before.before.before.args.line.now in
-    known-form l line _ _ (c.before.before.entry.ensures.0 ∙ ap (entry_at line) c.before.before.before.word.ensures) c.word2.ensures formed
+    known_form l line _ _ (c.before.before.entry.ensures.0 ∙ ap (entry_at line) c.before.before.before.word.ensures) c.word2.ensures formed
 
 pub entries-at-spec : {M : Type 1} → statement M
 entries-at-spec =

@@ -3,15 +3,15 @@ use borrow.Author.Rules.{rules}
 use native.Mathlib.Omega.{arith}
 use mathlib.Core.Path.{refl, ap, ◌∙◌}
 use Prim.Native.Nat.{◌+◌}
-use Rattle.token.specs.Lines.{lineEnd}
-use Rattle.row.specs.Row.{rowBelow}
-use Rattle.row.proofs.Line.{line-missing, line-formless, line-good, line-bad, is_row, held-judged}
+use Rattle.token.specs.Lines.{line_end}
+use Rattle.row.specs.Row.{row_below}
+use Rattle.row.proofs.Line.{line_missing, line_formless, line_good, line_bad, is_row, held_judged}
 use Rattle.row.proofs.line_check.Statement.{statement}
 use Rattle.row.proofs.line_check.Tie as tie
 
 returns : tie.Need-returns
 returns c = let a = c.before.before.before.args in
-    (line-missing a.i a.text.now a.at (rowBelow a.i a.scratch.now) c.if1.true, λ z. absurd (omega arith), refl)
+    (line_missing a.i a.text.now a.at (row_below a.i a.scratch.now) c.if1.true, λ z. absurd (omega arith), refl)
 
 find-requires : tie.Need-find-requires
 find-requires c κs = search rules
@@ -32,11 +32,11 @@ row-at-requires : tie.Need-row-at-requires
 row-at-requires c κs = search rules
 
 returns-2 : tie.Need-returns-2
-unfolding lineEnd
+unfolding line_end
 returns-2 c = let a = c.before.before.before.before.before.before.before.args in
     let text = a.text.now in
     let end = c.before.before.before.find.ensures.0 in
-    (line-formless a.i text a.at (rowBelow a.i a.scratch.now) c.before.before.before.before.if1.false _ end _ refl _ c.before.row_at.ensures c.if2.true, λ z. absurd (omega arith), refl)
+    (line_formless a.i text a.at (row_below a.i a.scratch.now) c.before.before.before.before.if1.false _ end _ refl _ c.before.row_at.ensures c.if2.true, λ z. absurd (omega arith), refl)
 
 sub-row-check : tie.Need-overflow-sub-row-check
 sub-row-check c = search rules
@@ -57,14 +57,14 @@ same_length : tie.Need-same-length
 same_length c = search rules
 
 returns-3 : tie.Need-returns-3
-unfolding lineEnd
+unfolding line_end
 returns-3 c = let a = c.before.before.before.before.before.before.before.before.before.before.before.before.before.args in
     let text = a.text.now in
     let end = c.before.before.before.before.before.before.before.before.before.find.ensures.0 in
     let r = c.before.before.before.row-check.ensures in
-    let judged = held-judged a.i a.scratch.now _ _ r.0 in (
-      line-good a.i text a.at (rowBelow a.i a.scratch.now) c.before.before.before.before.before.before.before.before.before.before.if1.false _ end _ refl _ c.before.before.before.before.before.before.before.row_at.ensures _ judged c.before.before.before.before.before.before.if2.false c.if3.true,
-      λ z. (ap (λ n. n + 1) end, r.1 c.if3.true ∙ is_row a.i text a.at (rowBelow a.i a.scratch.now) c.before.before.before.before.before.before.before.before.before.before.if1.false _ end _ refl _ c.before.before.before.before.before.before.before.row_at.ensures),
+    let judged = held_judged a.i a.scratch.now _ _ r.0 in (
+      line_good a.i text a.at (row_below a.i a.scratch.now) c.before.before.before.before.before.before.before.before.before.before.if1.false _ end _ refl _ c.before.before.before.before.before.before.before.row_at.ensures _ judged c.before.before.before.before.before.before.if2.false c.if3.true,
+      λ z. (ap (λ n. n + 1) end, r.1 c.if3.true ∙ is_row a.i text a.at (row_below a.i a.scratch.now) c.before.before.before.before.before.before.before.before.before.before.if1.false _ end _ refl _ c.before.before.before.before.before.before.before.row_at.ensures),
       r.2,
     )
 
@@ -72,13 +72,13 @@ same-length-2 : tie.Need-same-length-2
 same-length-2 c = search rules
 
 returns-4 : tie.Need-returns-4
-unfolding lineEnd
+unfolding line_end
 returns-4 c = let a = c.before.before.before.before.before.before.before.before.before.before.before.before.before.args in
     let text = a.text.now in
     let end = c.before.before.before.before.before.before.before.before.before.find.ensures.0 in
     let r = c.before.before.before.row-check.ensures in
-    let judged = held-judged a.i a.scratch.now _ _ r.0 in
-    (line-bad a.i text a.at (rowBelow a.i a.scratch.now) c.before.before.before.before.before.before.before.before.before.before.if1.false _ end _ refl _ c.before.before.before.before.before.before.before.row_at.ensures _ judged c.before.before.before.before.before.before.if2.false c.if3.false, λ z. absurd (omega arith), r.2)
+    let judged = held_judged a.i a.scratch.now _ _ r.0 in
+    (line_bad a.i text a.at (row_below a.i a.scratch.now) c.before.before.before.before.before.before.before.before.before.before.if1.false _ end _ refl _ c.before.before.before.before.before.before.before.row_at.ensures _ judged c.before.before.before.before.before.before.if2.false c.if3.false, λ z. absurd (omega arith), r.2)
 
 pub line-check-spec : {M : Type 1} → statement M
 line-check-spec =

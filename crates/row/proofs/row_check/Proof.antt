@@ -10,17 +10,17 @@ use Prim.Native.Nat.{◌+◌, ◌-◌, ◌≤◌}
 use lib.ListN.{length, take, drop}
 use lib.Seq.{drop-set-lt}
 use Rattle.list.specs.declared.Kind.TheVariants.{Entry}
-use Rattle.list.specs.Items.{valuesAt}
-use Rattle.row.specs.Row.{inRule, rowBelow}
-use Rattle.row.proofs.Turn.{tested-small, rule-goes-on, rule-ends, values-on, values-end, stored_on, drop_more}
+use Rattle.list.specs.Items.{values_at}
+use Rattle.row.specs.Row.{in_rule, row_below}
+use Rattle.row.proofs.Turn.{tested_small, rule_goes_on, rule_ends, values_on, values_end, stored_on, drop_more}
 use Rattle.row.proofs.row_check.Statement.{statement}
 use Rattle.row.proofs.row_check.Tie as tie
 
 abbrev invariant-loop : tie.invariant-loop
 invariant-loop line from scratch₀ i j₀ p₀ before₀ scratch j p before =
-    (j ≤ 64) × (take j scratch ++ valuesAt Entry line p (64 - j) ≡ valuesAt Entry line from 64) × (drop j scratch ≡ drop j scratch₀)
-    × (inRule before (drop j (rowBelow i scratch₀)) (valuesAt Entry line p (64 - j))
-    ≡ inRule 0 (rowBelow i scratch₀) (valuesAt Entry line from 64))
+    (j ≤ 64) × (take j scratch ++ values_at Entry line p (64 - j) ≡ values_at Entry line from 64) × (drop j scratch ≡ drop j scratch₀)
+    × (in_rule before (drop j (row_below i scratch₀)) (values_at Entry line p (64 - j))
+    ≡ in_rule 0 (row_below i scratch₀) (values_at Entry line from 64))
     × (length scratch ≡ length scratch₀)
 
 abbrev decreases-loop : tie.decreases-loop
@@ -42,13 +42,13 @@ returns : tie.Need-returns invariant-loop decreases-loop
 returns c = let a = c.before.before.before.before.before.before.before.before.args in
     let l = c.before.before.before.before.before.loop in
     let more = c.before.before.before.before.loop-test.true in
-    let v = values-on a.line.now l.p 64 l.j _ _ more c.before.before.before.entry.ensures.0 refl in
-    let ends = rule-ends a.i l.scratch a.scratch.now c.before.before.before.before.before.before.before.before.requires l.j _ l.invariant.2 more l.before _ _ c.before.in-rule.ensures (not-true _ c.if1.true) in
-    (sym (sym l.invariant.3 ∙ ap (inRule l.before _) v ∙ ends), λ e. absurd (false≢true e), l.invariant.4)
+    let v = values_on a.line.now l.p 64 l.j _ _ more c.before.before.before.entry.ensures.0 refl in
+    let ends = rule_ends a.i l.scratch a.scratch.now c.before.before.before.before.before.before.before.before.requires l.j _ l.invariant.2 more l.before _ _ c.before.in_rule_lem.ensures (not-true _ c.if1.true) in
+    (sym (sym l.invariant.3 ∙ ap (in_rule l.before _) v ∙ ends), λ e. absurd (false≢true e), l.invariant.4)
 
 cast-scratch : tie.Need-overflow-cast-scratch invariant-loop decreases-loop
 cast-scratch c = let l = c.before.before.before.before.before.loop in
-    omega (arith, tested-small c.before.before.before.before.before.before.before.before.args.i l.scratch l.j l.before c.before.before.before.entry.result.value _ c.before.in-rule.ensures (not-false _ c.if1.false))
+    omega (arith, tested_small c.before.before.before.before.before.before.before.before.args.i l.scratch l.j l.before c.before.before.before.entry.result.value _ c.before.in_rule_lem.ensures (not-false _ c.if1.false))
 
 mul-scratch : tie.Need-overflow-mul-scratch invariant-loop decreases-loop
 mul-scratch c = search rules
@@ -69,12 +69,12 @@ loop-again : tie.Need-loop-preserved invariant-loop decreases-loop
 loop-again c = let a = c.before.before.before.before.before.before.before.before.before.args in
     let l = c.before.before.before.before.before.before.loop in
     let more = c.before.before.before.before.before.loop-test.true in
-    let v = values-on a.line.now l.p 64 l.j _ _ more c.before.before.before.before.entry.ensures.0 c.eat.ensures in
-    let on = rule-goes-on a.i l.scratch a.scratch.now c.before.before.before.before.before.before.before.before.before.requires l.j _ l.invariant.2 more l.before _ _ c.before.before.in-rule.ensures (not-false _ c.before.if1.false) in (
+    let v = values_on a.line.now l.p 64 l.j _ _ more c.before.before.before.before.entry.ensures.0 c.eat.ensures in
+    let on = rule_goes_on a.i l.scratch a.scratch.now c.before.before.before.before.before.before.before.before.before.requires l.j _ l.invariant.2 more l.before _ _ c.before.before.in_rule_lem.ensures (not-false _ c.before.if1.false) in (
       omega arith,
       stored_on l.scratch _ _ l.j _ (omega (arith, l.invariant.4, more, c.before.before.before.before.before.before.before.before.before.requires)) (rw v at l.invariant.1),
       drop-set-lt (l.j + 1) l.scratch l.j _ (omega arith) ∙ drop_more l.j l.scratch a.scratch.now l.invariant.2,
-      sym on ∙ sym (ap (inRule l.before _) v) ∙ l.invariant.3,
+      sym on ∙ sym (ap (in_rule l.before _) v) ∙ l.invariant.3,
       search rules,
     )
 
@@ -82,12 +82,12 @@ same-length-2 : tie.Need-same-length-2 invariant-loop decreases-loop
 same-length-2 c = search rules
 
 returns-2 : tie.Need-returns-2 invariant-loop decreases-loop
-unfolding inRule
+unfolding in_rule
 returns-2 c = let a = c.before.before.before.before.args in
     let l = c.before.loop in
-    let v = values-end a.line.now l.p 64 l.j c.loop-test.false in
+    let v = values_end a.line.now l.p 64 l.j c.loop-test.false in
     let all : l.j ≡ 64 = omega arith in
-    (sym (ap (inRule l.before _) v) ∙ l.invariant.3, λ e. sym (append-nil _) ∙ (rw (v, all) at l.invariant.1), l.invariant.4)
+    (sym (ap (in_rule l.before _) v) ∙ l.invariant.3, λ e. sym (append-nil _) ∙ (rw (v, all) at l.invariant.1), l.invariant.4)
 
 pub row-check-spec : {M : Type 1} → statement M
 row-check-spec =

@@ -7,17 +7,17 @@ use mathlib.Core.List.{◌++◌, append-nil}
 use Prim.Native.Nat.{◌+◌, ◌-◌, ◌*◌, ◌≤◌}
 use lib.ListN.{length, take}
 use Rattle.list.specs.declared.Kind.TheVariants.{Entry}
-use Rattle.list.specs.Items.{valuesAt}
+use Rattle.list.specs.Items.{values_at}
 use Rattle.row.specs.Row.{small}
-use Rattle.row.proofs.Turn.{values-on, values-end, stored_on, small-first, small-rest}
+use Rattle.row.proofs.Turn.{values_on, values_end, stored_on, small_first, small_rest}
 use Rattle.row.proofs.row_into.Statement.{statement}
 use Rattle.row.proofs.row_into.Tie as tie
 
 abbrev invariant-loop : tie.invariant-loop
 invariant-loop line from table₀ i at₀ end p₀ table at p =
     (64 * i ≤ at) × (at ≤ 64 * i + 64)
-    × (take at table ++ valuesAt Entry line p (64 * i + 64 - at) ≡ take (64 * i) table₀ ++ valuesAt Entry line from 64)
-    × (small (valuesAt Entry line p (64 * i + 64 - at)) ≡ true)
+    × (take at table ++ values_at Entry line p (64 * i + 64 - at) ≡ take (64 * i) table₀ ++ values_at Entry line from 64)
+    × (small (values_at Entry line p (64 * i + 64 - at)) ≡ true)
     × (length table ≡ length table₀)
 
 abbrev decreases-loop : tie.decreases-loop
@@ -40,8 +40,8 @@ entry-requires c κs = search rules
 cast-table : tie.Need-overflow-cast-table invariant-loop decreases-loop
 cast-table c = let a = c.before.before.before.before.before.before.args in
     let l = c.before.before.before.loop in
-    let v = values-on a.line.now l.p (64 * a.i + 64) l.at _ _ (omega (arith, c.before.before.loop-test.true)) c.before.entry.ensures.0 refl in
-    omega (arith, small-first c.before.entry.result.value _ (rw v at l.invariant.3))
+    let v = values_on a.line.now l.p (64 * a.i + 64) l.at _ _ (omega (arith, c.before.before.loop-test.true)) c.before.entry.ensures.0 refl in
+    omega (arith, small_first c.before.entry.result.value _ (rw v at l.invariant.3))
 
 mul-table : tie.Need-overflow-mul-table invariant-loop decreases-loop
 mul-table c = search rules
@@ -61,11 +61,11 @@ loop-less c = search rules
 loop-again : tie.Need-loop-preserved invariant-loop decreases-loop
 loop-again c = let a = c.before.before.before.before.before.before.before.args in
     let l = c.before.before.before.before.loop in
-    let v = values-on a.line.now l.p (64 * a.i + 64) l.at _ _ (omega (arith, c.before.before.before.loop-test.true)) c.before.before.entry.ensures.0 c.eat.ensures in (
+    let v = values_on a.line.now l.p (64 * a.i + 64) l.at _ _ (omega (arith, c.before.before.before.loop-test.true)) c.before.before.entry.ensures.0 c.eat.ensures in (
       omega arith,
       omega arith,
       stored_on l.table _ _ l.at _ (omega (arith, l.invariant.4, c.before.before.before.loop-test.true, c.before.before.before.before.before.before.before.requires.0, c.before.before.before.before.before.before.before.requires.1)) (rw v at l.invariant.2),
-      small-rest _ _ (rw v at l.invariant.3),
+      small_rest _ _ (rw v at l.invariant.3),
       search rules,
     )
 
@@ -76,7 +76,7 @@ returns : tie.Need-returns invariant-loop decreases-loop
 returns c = let a = c.before.before.before.before.args in
     let l = c.before.loop in
     let all : l.at ≡ 64 * a.i + 64 = omega (arith, c.loop-test.false) in
-    let v = values-end a.line.now l.p (64 * a.i + 64) l.at (omega (arith, all)) in
+    let v = values_end a.line.now l.p (64 * a.i + 64) l.at (omega (arith, all)) in
     (sym (append-nil _) ∙ (rw (v, all) at l.invariant.2), l.invariant.4)
 
 pub row-into-spec : {M : Type 1} → statement M

@@ -1,7 +1,7 @@
 -- `script::bare` meets its contract: the calls nest as the definition does.
 use borrow.Author.Rules.{rules}
 use mathlib.Core.Path.{◌∙◌}
-use Rattle.script.specs.Line.{bareOf}
+use Rattle.script.specs.Line.{bare_of}
 use Rattle.script.proofs.bare.Statement.{statement}
 use Rattle.script.proofs.bare.Tie as tie
 
@@ -12,7 +12,7 @@ closed-requires : tie.Need-closed-requires
 closed-requires c κs = search rules
 
 returns : tie.Need-returns
-unfolding bareOf
+unfolding bare_of
 returns c = c.closed.ensures ∙ rw c.before.word.ensures
 
 pub bare_spec : {M : Type 1} → statement M

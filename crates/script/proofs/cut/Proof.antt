@@ -1,7 +1,7 @@
 -- `script::cut` meets its contract: the calls nest as the definition does.
 use borrow.Author.Rules.{rules}
 use mathlib.Core.Path.{◌∙◌}
-use Rattle.script.proofs.Forms.{cut-read}
+use Rattle.script.proofs.Forms.{cut_read}
 use Rattle.script.proofs.cut.Statement.{statement}
 use Rattle.script.proofs.cut.Tie as tie
 
@@ -18,7 +18,7 @@ closed-requires : tie.Need-closed-requires
 closed-requires c κs = search rules
 
 returns : tie.Need-returns
-returns c = c.closed.ensures ∙ cut-read _ _ _ c.before.before.word.ensures c.before.hex.ensures.0
+returns c = c.closed.ensures ∙ cut_read _ _ _ c.before.before.word.ensures c.before.hex.ensures.0
 
 pub cut_spec : {M : Type 1} → statement M
 cut_spec =

@@ -1,7 +1,7 @@
 -- `script::paged` meets its contract: the calls nest as the definition does.
 use borrow.Author.Rules.{rules}
 use mathlib.Core.Path.{◌∙◌}
-use Rattle.script.proofs.Forms.{paged-read}
+use Rattle.script.proofs.Forms.{paged_read}
 use Rattle.script.proofs.paged.Statement.{statement}
 use Rattle.script.proofs.paged.Tie as tie
 
@@ -24,7 +24,7 @@ closed-requires : tie.Need-closed-requires
 closed-requires c κs = search rules
 
 returns : tie.Need-returns
-returns c = c.closed.ensures ∙ paged-read _ _ _ _ _ _ _ c.before.before.before.before.word.ensures c.before.before.before.number.ensures.0 c.before.before.eat.ensures
+returns c = c.closed.ensures ∙ paged_read _ _ _ _ _ _ _ c.before.before.before.before.word.ensures c.before.before.before.number.ensures.0 c.before.before.eat.ensures
 
 pub paged-spec : {M : Type 1} → statement M
 paged-spec =

@@ -1,7 +1,7 @@
 -- `script::plan` meets its contract: the calls nest as the definition does.
 use borrow.Author.Rules.{rules}
 use mathlib.Core.Path.{◌∙◌}
-use Rattle.script.proofs.Forms.{plan-read}
+use Rattle.script.proofs.Forms.{plan_read}
 use Rattle.script.proofs.plan.Statement.{statement}
 use Rattle.script.proofs.plan.Tie as tie
 
@@ -24,7 +24,7 @@ or-requires : tie.Need-or-requires
 or-requires c κs = search rules
 
 returns : tie.Need-returns
-returns c = c.or.ensures ∙ rw (c.before.paged.ensures, c.before.before.closed.ensures) (plan-read _ _ _ c.before.before.before.before.word.ensures c.before.before.before.list_at.ensures)
+returns c = c.or.ensures ∙ rw (c.before.paged.ensures, c.before.before.closed.ensures) (plan_read _ _ _ c.before.before.before.before.word.ensures c.before.before.before.list_at.ensures)
 
 pub plan-spec : {M : Type 1} → statement M
 plan-spec =

@@ -1,7 +1,7 @@
 -- `script::short_form_of` meets its contract: the calls nest as the definition does.
 use borrow.Author.Rules.{rules}
 use mathlib.Core.Path.{◌∙◌}
-use Rattle.script.specs.Line.{shortFormOf}
+use Rattle.script.specs.Line.{short_form_of}
 use Rattle.script.proofs.short_form_of.Statement.{statement}
 use Rattle.script.proofs.short_form_of.Tie as tie
 
@@ -33,7 +33,7 @@ or-requires-3 : tie.Need-or-requires-3
 or-requires-3 c κs = search rules
 
 returns : tie.Need-returns
-unfolding shortFormOf
+unfolding short_form_of
 returns c = c.or3.ensures ∙ rw (c.before.or2.ensures, c.before.before.or.ensures, c.before.before.before.cut.ensures, c.before.before.before.before.step.ensures, c.before.before.before.before.before.bare2.ensures, c.before.before.before.before.before.before.before.bare.ensures)
 
 pub short-form-of-spec : {M : Type 1} → statement M

@@ -2,13 +2,13 @@
 use native.Mathlib.Omega.{arith}
 use borrow.Author.Tests.{lt-ltb, le-ltb}
 use borrow.Author.Rules.{rules}
-use Rattle.text.specs.Text.{digitAt}
+use Rattle.text.specs.Text.{digit_at}
 use Rattle.text.proofs.Laws.{wrote_none, wrote_as}
 use Rattle.text.proofs.put_digit.Statement.{statement}
 use Rattle.text.proofs.put_digit.Tie as tie
 
 returns : tie.Need-returns
-unfolding digitAt
+unfolding digit_at
 returns c = (wrote_as (simp (lt-ltb _ _ c.if1.true)) (wrote_none _ _), omega arith)
 
 div-digit-of : tie.Need-nonzero-div-digit-of
@@ -27,7 +27,7 @@ same_length : tie.Need-same-length
 same_length c = search rules
 
 returns-2 : tie.Need-returns-2
-unfolding digitAt
+unfolding digit_at
 returns-2 c = (wrote_as (simp (le-ltb _ _ c.before.before.before.before.before.if1.false, c.before.before.before.digit-of.ensures)) c.before.before.put.ensures, omega (arith, c.before.before.put.ensures.place))
 
 pub put-digit-spec : {M : Type 1} → statement M

@@ -2,8 +2,8 @@
 use mathlib.Core.Path.{ap, ap₂, ◌∙◌}
 use mathlib.Core.List.{List, ◌∷◌, ◌++◌}
 use Prim.Native.Nat.{ℕ, ◌+◌}
-use Rattle.model.specs.Turns.{inBytes, plus}
-use Rattle.model.specs.Prices.{paidGroup}
+use Rattle.model.specs.Turns.{in_bytes, plus}
+use Rattle.model.specs.Prices.{paid_group}
 use borrow.Author.Rules.{rules}
 use Rattle.till.proofs.fare.Statement.{statement}
 use Rattle.till.proofs.fare.Tie as tie
@@ -39,12 +39,12 @@ members-requires : tie.Need-members-requires
 members-requires c κs = search rules
 
 returns : tie.Need-returns
-unfolding paidGroup plus
+unfolding paid_group plus
 returns c = let a = c.before.before.before.before.before.before.before.before.before.args in
     c.members.ensures
     ∙ ap₂ (λ (t u : List ℕ). 0 ∷ (t ++ (1 ∷ u)))
-    (c.before.before.before.before.before.before.bytes_of.ensures ∙ ap (λ (n : ℕ). inBytes 8 (n + a.turns)) c.before.before.before.before.before.before.before.held.ensures)
-    (c.before.before.before.bytes-of2.ensures ∙ ap₂ (λ (n m : ℕ). inBytes 8 (n + m)) c.before.before.before.before.before.held2.ensures c.before.before.before.before.price.ensures)
+    (c.before.before.before.before.before.before.bytes_of.ensures ∙ ap (λ (n : ℕ). in_bytes 8 (n + a.turns)) c.before.before.before.before.before.before.before.held.ensures)
+    (c.before.before.before.bytes-of2.ensures ∙ ap₂ (λ (n m : ℕ). in_bytes 8 (n + m)) c.before.before.before.before.before.held2.ensures c.before.before.before.before.price.ensures)
 
 pub fare-spec : {M : Type 1} → statement M
 fare-spec =

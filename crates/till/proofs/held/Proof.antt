@@ -3,7 +3,7 @@ use native.Mathlib.Omega.{arith}
 use mathlib.Core.Path.{ap, ◌∙◌}
 use lib.ListN.{length}
 use Rattle.model.specs.Turns.{amount}
-use Rattle.lookup.proofs.Laws.{copy-part}
+use Rattle.lookup.proofs.Laws.{copy_part}
 use Rattle.till.proofs.Laws.{looks}
 use borrow.Author.Rules.{rules}
 use Rattle.till.proofs.held.Statement.{statement}
@@ -40,12 +40,12 @@ part-amount-of-end c = let a = c.before.before.before.before.args in
 amount-of-requires : tie.Need-amount-of-requires
 amount-of-requires c κs = let a = c.before.before.before.before.before.args in
     let q = looks a.plan a.image.now c.before.before.before.before.before.requires.0 a.unit c.before.before.before.before.before.requires.1 _ c.before.before.before.Span-of.ensures in
-    ap length (copy-part a.plan a.image.now a.unit _ q.is) ∙ q.size
+    ap length (copy_part a.plan a.image.now a.unit _ q.is) ∙ q.size
 
 returns : tie.Need-returns
 returns c = let a = c.before.before.before.before.before.before.args in
     let q = looks a.plan a.image.now c.before.before.before.before.before.before.requires.0 a.unit c.before.before.before.before.before.before.requires.1 _ c.before.before.before.before.Span-of.ensures in
-    c.amount-of.ensures ∙ ap amount (copy-part a.plan a.image.now a.unit _ q.is)
+    c.amount-of.ensures ∙ ap amount (copy_part a.plan a.image.now a.unit _ q.is)
 
 pub held_spec : {M : Type 1} → statement M
 held_spec =

@@ -1,5 +1,5 @@
 -- `till::members` meets its contract.
-use Rattle.till.proofs.Laws.{two-members}
+use Rattle.till.proofs.Laws.{two_members}
 use borrow.Author.Rules.{rules}
 use Rattle.till.proofs.members.Statement.{statement}
 use Rattle.till.proofs.members.Tie as tie
@@ -33,7 +33,7 @@ fill-requires-2 c κs = search rules
 
 returns : tie.Need-returns
 returns c = let a = c.before.before.before.before.before.before.before.before.args in
-    two-members a.total.now a.cents.now c.before.before.before.before.before.before.before.before.requires.0 c.before.before.before.before.before.before.before.before.requires.1 c.before.fill2.ensures c.before.before.before.before.fill.ensures
+    two_members a.total.now a.cents.now c.before.before.before.before.before.before.before.before.requires.0 c.before.before.before.before.before.before.before.before.requires.1 c.before.fill2.ensures c.before.before.before.before.fill.ensures
 
 pub members-spec : {M : Type 1} → statement M
 members-spec =

@@ -2,10 +2,10 @@
 use native.Mathlib.Omega.{arith}
 use mathlib.Core.Path.{refl, sym, ◌∙◌}
 use lib.ListN.{length}
-use Rattle.model.specs.Refusals.{paidNumber}
-use Rattle.model.proofs.RefusalLaws.{first-stop, first-skip, first-refused}
-use Rattle.refusal.proofs.Laws.{phase-refused, phase-passed, live}
-use Rattle.till.proofs.Laws.{passed-by, fare-room}
+use Rattle.model.specs.Refusals.{paid_number}
+use Rattle.model.proofs.RefusalLaws.{first_stop, first_skip, first_refused}
+use Rattle.refusal.proofs.Laws.{phase_refused, phase_passed, live}
+use Rattle.till.proofs.Laws.{passed_by_lem, fare_room}
 use borrow.Author.Rules.{rules}
 use Rattle.till.proofs.paid_number.Statement.{statement}
 use Rattle.till.proofs.paid_number.Tie as tie
@@ -14,68 +14,68 @@ ready-number-requires : tie.Need-ready-number-requires
 ready-number-requires c κs = search rules
 
 returns : tie.Need-returns
-unfolding paidNumber
+unfolding paid_number
 returns c = let a = c.before.before.before.args in
-    phase-refused a.plan a.payload.now a.phase (length a.image.now) _ _ c.before.ready-number.ensures refl c.if1.true _
+    phase_refused a.plan a.payload.now a.phase (length a.image.now) _ _ c.before.ready-number.ensures refl c.if1.true _
 
 no-till-requires : tie.Need-no-till-requires
 no-till-requires c κs = search rules
 
 returns-2 : tie.Need-returns-2
-unfolding paidNumber
+unfolding paid_number
 returns-2 c = let a = c.before.before.before.before.before.args in
-    sym (phase-passed a.plan a.payload.now a.phase (length a.image.now) _ _ c.before.before.before.ready-number.ensures refl c.before.before.if1.false _
-    ∙ first-stop 16 _ _ (sym c.before.no-till.ensures ∙ c.if2.true))
+    sym (phase_passed a.plan a.payload.now a.phase (length a.image.now) _ _ c.before.before.before.ready-number.ensures refl c.before.before.if1.false _
+    ∙ first_stop 16 _ _ (sym c.before.no-till.ensures ∙ c.if2.true))
 
 is-record-requires : tie.Need-is-record-requires
 is-record-requires c κs = search rules
 
 returns-3 : tie.Need-returns-3
-unfolding paidNumber
+unfolding paid_number
 returns-3 c = let a = c.before.before.before.before.before.before.before.args in
-    sym (phase-passed a.plan a.payload.now a.phase (length a.image.now) _ _ c.before.before.before.before.before.ready-number.ensures refl c.before.before.before.before.if1.false _
-    ∙ first-skip 16 _ _ (sym c.before.before.before.no-till.ensures ∙ c.before.before.if2.false)
-    ∙ first-stop 20 _ _ (sym c.before.is-record.ensures ∙ c.if3.true))
+    sym (phase_passed a.plan a.payload.now a.phase (length a.image.now) _ _ c.before.before.before.before.before.ready-number.ensures refl c.before.before.before.before.if1.false _
+    ∙ first_skip 16 _ _ (sym c.before.before.before.no-till.ensures ∙ c.before.before.if2.false)
+    ∙ first_stop 20 _ _ (sym c.before.is-record.ensures ∙ c.if3.true))
 
 no-record-requires : tie.Need-no-record-requires
 no-record-requires c κs = let a = c.before.before.before.before.before.before.before.args in
-    let r = fare-room a.plan a.payload.now a.phase a.image.now (live a.plan a.payload.now a.phase a.image.now _ _ c.before.before.before.before.before.ready-number.ensures c.before.before.before.before.if1.false) (sym c.before.before.before.no-till.ensures ∙ c.before.before.if2.false) in
+    let r = fare_room a.plan a.payload.now a.phase a.image.now (live a.plan a.payload.now a.phase a.image.now _ _ c.before.before.before.before.before.ready-number.ensures c.before.before.before.before.if1.false) (sym c.before.before.before.no-till.ensures ∙ c.before.before.if2.false) in
     omega (arith, r.two)
 
 returns-4 : tie.Need-returns-4
-unfolding paidNumber
+unfolding paid_number
 returns-4 c = let a = c.before.before.before.before.before.before.before.before.before.args in
-    sym (phase-passed a.plan a.payload.now a.phase (length a.image.now) _ _ c.before.before.before.before.before.before.before.ready-number.ensures refl c.before.before.before.before.before.before.if1.false _
-    ∙ first-skip 16 _ _ (sym c.before.before.before.before.before.no-till.ensures ∙ c.before.before.before.before.if2.false)
-    ∙ first-skip 20 _ _ (sym c.before.before.before.is-record.ensures ∙ c.before.before.if3.false)
-    ∙ first-stop 21 _ _ (sym c.before.no_record.ensures ∙ c.if4.true))
+    sym (phase_passed a.plan a.payload.now a.phase (length a.image.now) _ _ c.before.before.before.before.before.before.before.ready-number.ensures refl c.before.before.before.before.before.before.if1.false _
+    ∙ first_skip 16 _ _ (sym c.before.before.before.before.before.no-till.ensures ∙ c.before.before.before.before.if2.false)
+    ∙ first_skip 20 _ _ (sym c.before.before.before.is-record.ensures ∙ c.before.before.if3.false)
+    ∙ first_stop 21 _ _ (sym c.before.no_record_lem.ensures ∙ c.if4.true))
 
 marks-number-requires : tie.Need-marks-number-requires
 marks-number-requires c κs = let a = c.before.before.before.before.before.before.before.before.before.args in
-    fare-room a.plan a.payload.now a.phase a.image.now (live a.plan a.payload.now a.phase a.image.now _ _ c.before.before.before.before.before.before.before.ready-number.ensures c.before.before.before.before.before.before.if1.false) (sym c.before.before.before.before.before.no-till.ensures ∙ c.before.before.before.before.if2.false)
+    fare_room a.plan a.payload.now a.phase a.image.now (live a.plan a.payload.now a.phase a.image.now _ _ c.before.before.before.before.before.before.before.ready-number.ensures c.before.before.before.before.before.before.if1.false) (sym c.before.before.before.before.before.no-till.ensures ∙ c.before.before.before.before.if2.false)
 
 returns-5 : tie.Need-returns-5
-unfolding paidNumber
+unfolding paid_number
 returns-5 c = let a = c.before.before.before.before.before.before.before.before.before.before.before.args in
-    sym (phase-passed a.plan a.payload.now a.phase (length a.image.now) _ _ c.before.before.before.before.before.before.before.before.before.ready-number.ensures refl c.before.before.before.before.before.before.before.before.if1.false _
-    ∙ first-skip 16 _ _ (sym c.before.before.before.before.before.before.before.no-till.ensures ∙ c.before.before.before.before.before.before.if2.false)
-    ∙ first-skip 20 _ _ (sym c.before.before.before.before.before.is-record.ensures ∙ c.before.before.before.before.if3.false)
-    ∙ first-skip 21 _ _ (sym c.before.before.before.no_record.ensures ∙ c.before.before.if4.false)
-    ∙ first-refused _ _ (λ z. c.if5.true (c.before.marks-number.ensures ∙ z))
+    sym (phase_passed a.plan a.payload.now a.phase (length a.image.now) _ _ c.before.before.before.before.before.before.before.before.before.ready-number.ensures refl c.before.before.before.before.before.before.before.before.if1.false _
+    ∙ first_skip 16 _ _ (sym c.before.before.before.before.before.before.before.no-till.ensures ∙ c.before.before.before.before.before.before.if2.false)
+    ∙ first_skip 20 _ _ (sym c.before.before.before.before.before.is-record.ensures ∙ c.before.before.before.before.if3.false)
+    ∙ first_skip 21 _ _ (sym c.before.before.before.no_record_lem.ensures ∙ c.before.before.if4.false)
+    ∙ first_refused _ _ (λ z. c.if5.true (c.before.marks-number.ensures ∙ z))
     ∙ sym c.before.marks-number.ensures)
 
 sums-number-requires : tie.Need-sums-number-requires
 sums-number-requires c κs = let a = c.before.before.before.before.before.before.before.before.before.before.before.args in
-    fare-room a.plan a.payload.now a.phase a.image.now (live a.plan a.payload.now a.phase a.image.now _ _ c.before.before.before.before.before.before.before.before.before.ready-number.ensures c.before.before.before.before.before.before.before.before.if1.false) (sym c.before.before.before.before.before.before.before.no-till.ensures ∙ c.before.before.before.before.before.before.if2.false)
+    fare_room a.plan a.payload.now a.phase a.image.now (live a.plan a.payload.now a.phase a.image.now _ _ c.before.before.before.before.before.before.before.before.before.ready-number.ensures c.before.before.before.before.before.before.before.before.if1.false) (sym c.before.before.before.before.before.before.before.no-till.ensures ∙ c.before.before.before.before.before.before.if2.false)
 
 returns-6 : tie.Need-returns-6
-unfolding paidNumber
+unfolding paid_number
 returns-6 c = let a = c.before.before.before.before.before.before.before.before.before.before.before.before.args in
-    sym (phase-passed a.plan a.payload.now a.phase (length a.image.now) _ _ c.before.before.before.before.before.before.before.before.before.before.ready-number.ensures refl c.before.before.before.before.before.before.before.before.before.if1.false _
-    ∙ first-skip 16 _ _ (sym c.before.before.before.before.before.before.before.before.no-till.ensures ∙ c.before.before.before.before.before.before.before.if2.false)
-    ∙ first-skip 20 _ _ (sym c.before.before.before.before.before.before.is-record.ensures ∙ c.before.before.before.before.before.if3.false)
-    ∙ first-skip 21 _ _ (sym c.before.before.before.before.no_record.ensures ∙ c.before.before.before.if4.false)
-    ∙ first-skip 8 _ _ (passed-by 7 _ c.before.before.marks-number.ensures c.before.if5.false)
+    sym (phase_passed a.plan a.payload.now a.phase (length a.image.now) _ _ c.before.before.before.before.before.before.before.before.before.before.ready-number.ensures refl c.before.before.before.before.before.before.before.before.before.if1.false _
+    ∙ first_skip 16 _ _ (sym c.before.before.before.before.before.before.before.before.no-till.ensures ∙ c.before.before.before.before.before.before.before.if2.false)
+    ∙ first_skip 20 _ _ (sym c.before.before.before.before.before.before.is-record.ensures ∙ c.before.before.before.before.before.if3.false)
+    ∙ first_skip 21 _ _ (sym c.before.before.before.before.no_record_lem.ensures ∙ c.before.before.before.if4.false)
+    ∙ first_skip 8 _ _ (passed_by_lem 7 _ c.before.before.marks-number.ensures c.before.if5.false)
     ∙ sym c.sums-number.ensures)
 
 pub paid-number-spec : {M : Type 1} → statement M

@@ -2,7 +2,7 @@
 use native.Mathlib.Omega.{arith}
 use borrow.Author.Rules.{rules}
 use borrow.Author.Tests.{lt-ltb, le-ltb}
-use Rattle.token.specs.Token.{digitAt}
+use Rattle.token.specs.Token.{digit_at}
 use Rattle.token.proofs.digit.Statement.{statement}
 use Rattle.token.proofs.digit.Tie as tie
 
@@ -13,11 +13,11 @@ digit-of-requires : tie.Need-digit-of-requires
 digit-of-requires c κs = search rules
 
 returns : tie.Need-returns
-unfolding digitAt
+unfolding digit_at
 returns c = (simp (lt-ltb _ _ c.before.before.if1.true, c.digit-of.ensures.0), omega arith, λ _. c.before.before.if1.true)
 
 returns-2 : tie.Need-returns-2
-unfolding digitAt
+unfolding digit_at
 returns-2 c = (simp (le-ltb _ _ c.if1.false), omega arith, λ h. omega arith)
 
 pub digit-spec : {M : Type 1} → statement M

@@ -1,7 +1,7 @@
--- `token::eat` meets its contract: each way out is a case of `eatAt`.
+-- `token::eat` meets its contract: each way out is a case of `eat_at`.
 use borrow.Author.Rules.{rules}
 use borrow.Author.Tests.{lt-ltb, le-ltb, eq-eqb, ne_eqb}
-use Rattle.token.specs.Token.{eatAt}
+use Rattle.token.specs.Token.{eat_at}
 use Rattle.token.proofs.eat.Statement.{statement}
 use Rattle.token.proofs.eat.Tie as tie
 
@@ -12,15 +12,15 @@ add-result : tie.Need-overflow-add-result
 add-result c = search rules
 
 returns : tie.Need-returns
-unfolding eatAt
+unfolding eat_at
 returns c = simp (lt-ltb _ _ c.before.before.if1.true, eq-eqb _ _ c.if2.true)
 
 returns-2 : tie.Need-returns-2
-unfolding eatAt
+unfolding eat_at
 returns-2 c = simp (lt-ltb _ _ c.before.before.if1.true, ne_eqb _ _ c.if2.false)
 
 returns-3 : tie.Need-returns-3
-unfolding eatAt
+unfolding eat_at
 returns-3 c = simp (le-ltb _ _ c.if1.false)
 
 pub eat-spec : {M : Type 1} → statement M

@@ -2,7 +2,7 @@
 use native.Mathlib.Omega.{arith}
 use borrow.Author.Rules.{rules}
 use borrow.Author.Tests.{lt-ltb, le-ltb}
-use Rattle.token.specs.Token.{extendAt}
+use Rattle.token.specs.Token.{extend_at}
 use Rattle.token.proofs.Laws.{product}
 use Rattle.token.proofs.extend.Statement.{statement}
 use Rattle.token.proofs.extend.Tie as tie
@@ -20,11 +20,11 @@ add-t9 : tie.Need-overflow-add-t9
 add-t9 c = omega (arith, c.before.before.before.digit.ensures.2 (omega arith))
 
 returns : tie.Need-returns
-unfolding extendAt
+unfolding extend_at
 returns c = (simp (← c.before.before.before.digit.ensures.0, lt-ltb _ _ c.before.before.if1.true), omega arith)
 
 returns-2 : tie.Need-returns-2
-unfolding extendAt
+unfolding extend_at
 returns-2 c = (simp (← c.before.digit.ensures.0, le-ltb _ _ c.if1.false), omega arith)
 
 pub extend-spec : {M : Type 1} → statement M

@@ -1,11 +1,11 @@
--- `token::word` meets its contract: the loop keeps the place that is left to reach; a turn is one `word-step`.
+-- `token::word` meets its contract: the loop keeps the place that is left to reach; a turn is one `word_step`.
 use Prim.Native.Nat.{ℕ, ◌+◌, ◌-◌, ◌≤◌}
 use mathlib.Core.Path.{◌≡◌, refl, ap, sym, ◌∙◌}
 use lib.ListN.{length, drop}
 use native.Mathlib.Omega.{arith}
 use borrow.Author.Rules.{rules}
 use Rattle.token.specs.Token.{word_at}
-use Rattle.token.proofs.Laws.{word-step, word_end}
+use Rattle.token.proofs.Laws.{word_step, word_end}
 use Rattle.token.proofs.word.Statement.{statement}
 use Rattle.token.proofs.word.Tie as tie
 
@@ -35,7 +35,7 @@ loop-again c = let l = c.before.before.before.loop in
     let a = c.before.before.before.before.before.before.args in (
       omega arith,
       ap (λ (at : ℕ). word_at a.line.now at (drop (l.i + 1) a.word.now)) c.eat.ensures
-          ∙ sym (word-step _ _ _ _ c.before.before.loop-test.true) ∙ l.invariant.1,
+          ∙ sym (word_step _ _ _ _ c.before.before.loop-test.true) ∙ l.invariant.1,
     )
 
 returns : tie.Need-returns invariant-loop decreases-loop

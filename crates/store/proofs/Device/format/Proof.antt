@@ -1,7 +1,7 @@
 -- `Device::format` meets its contract.
 use mathlib.Core.Path.{refl}
 use Rattle.model.specs.Calls.{format}
-use Rattle.model.specs.Refusals.{formatNumber}
+use Rattle.model.specs.Refusals.{format_number}
 use Rattle.lookup.proofs.Laws.{room}
 use Rattle.refusal.proofs.Laws.{live}
 use Rattle.store.proofs.Laws.{refused, accepted}
@@ -21,7 +21,7 @@ returns c = let a = c.before.before.before.before.before.before.before.args in
     refused a.self a.image.now _ _ _ c.before.format-number.ensures c.if1.true
 
 format-units-requires : tie.Need-format-units-requires
-unfolding formatNumber
+unfolding format_number
 format-units-requires c κs = let a = c.before.before.before.before.before.before.before.before.args in
     let d = a.self in
     let r = room d.plan d.payload d.phase a.image.now (live d.plan d.payload d.phase a.image.now _ _ c.before.before.format-number.ensures c.before.if1.false) in

@@ -1,5 +1,5 @@
 -- `Device::paid_ride` meets its contract.
-use Rattle.store.proofs.Paid.{paid-refused, paid-fits, paid-accepted}
+use Rattle.store.proofs.Paid.{paid_refused, paid_fits, paid_accepted}
 use borrow.Author.Rules.{rules}
 use Rattle.store.proofs.Device.paid_ride.Statement.{statement}
 use Rattle.store.proofs.Device.paid_ride.Tie as tie
@@ -9,11 +9,11 @@ paid-number-requires c κs = search rules
 
 returns : tie.Need-returns
 returns c = let a = c.before.before.before.before.before.before.args in
-    paid-refused a.self a.image.now a.turns _ c.before.paid-number.ensures c.if1.true
+    paid_refused a.self a.image.now a.turns _ c.before.paid-number.ensures c.if1.true
 
 fare-requires : tie.Need-fare-requires
 fare-requires c κs = let a = c.before.before.before.before.before.before.args in
-    paid-fits a.self a.image.now a.turns _ c.before.paid-number.ensures c.if1.false
+    paid_fits a.self a.image.now a.turns _ c.before.paid-number.ensures c.if1.false
 
 slice-aggregate-record-of : tie.Need-slice-aggregate-record-of
 slice-aggregate-record-of c = search rules
@@ -23,7 +23,7 @@ record-of-requires c κs = search rules
 
 returns-2 : tie.Need-returns-2
 returns-2 c = let a = c.before.before.before.before.before.before.before.before.before.args in
-    paid-accepted a.self a.image.now a.turns _ c.before.before.before.before.paid-number.ensures c.before.before.before.if1.false _ _ c.before.before.fare.ensures c.record_of.ensures
+    paid_accepted a.self a.image.now a.turns _ c.before.before.before.before.paid-number.ensures c.before.before.before.if1.false _ _ c.before.before.fare.ensures c.record_of.ensures
 
 pub paid-ride-spec : {M : Type 1} → statement M
 paid-ride-spec =

@@ -2,8 +2,8 @@
 use native.Mathlib.Omega.{arith}
 use mathlib.Core.Path.{◌∙◌}
 use Rattle.model.specs.Calls.{read}
-use Rattle.lookup.proofs.Laws.{copy-part}
-use Rattle.store.proofs.Laws.{read_looks, part-refused, part-shown}
+use Rattle.lookup.proofs.Laws.{copy_part}
+use Rattle.store.proofs.Laws.{read_looks, part_refused, part_shown}
 use borrow.Author.Rules.{rules}
 use Rattle.store.proofs.Device.read.Statement.{statement}
 use Rattle.store.proofs.Device.read.Tie as tie
@@ -16,7 +16,7 @@ slice-aggregate-result c = search rules
 
 returns : tie.Need-returns
 unfolding read
-returns c = part-refused _ _ _ c.before.before.read_number.ensures c.before.if1.true
+returns c = part_refused _ _ _ c.before.before.read_number.ensures c.before.if1.true
 
 span-of-requires : tie.Need-span-of-requires
 span-of-requires c κs = search rules
@@ -50,8 +50,8 @@ returns-2 : tie.Need-returns-2
 unfolding read
 returns-2 c = let a = c.before.before.before.before.before.before.before.before.before.before.args in
     let q = read_looks a.self.plan a.self.payload a.self.phase a.image.now _ a.role a.unit c.before.before.before.before.before.read_number.ensures c.before.before.before.before.if1.false _ c.before.before.before.Span-of.ensures in
-    copy-part a.self.plan a.image.now a.unit _ q.is
-    ∙ part-shown _ _ _ c.before.before.before.before.before.read_number.ensures c.before.before.before.before.if1.false
+    copy_part a.self.plan a.image.now a.unit _ q.is
+    ∙ part_shown _ _ _ c.before.before.before.before.before.read_number.ensures c.before.before.before.before.if1.false
 
 pub read_spec : {M : Type 1} → statement M
 read_spec =

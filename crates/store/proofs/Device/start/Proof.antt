@@ -1,7 +1,7 @@
 -- `Device::start` meets its contract.
 use borrow.Author.Rules.{rules}
 use Rattle.model.specs.Calls.{start}
-use Rattle.store.proofs.Laws.{start-refused, start-accepted}
+use Rattle.store.proofs.Laws.{start_refused, start_accepted}
 use Rattle.store.proofs.Device.start.Statement.{statement}
 use Rattle.store.proofs.Device.start.Tie as tie
 
@@ -13,14 +13,14 @@ blank-requires c κs = search rules
 
 returns : tie.Need-returns
 unfolding start
-returns c = start-refused c.before.before.before.args.plan _ _ _ c.before.before.plan-number.ensures c.before.if1.true c.blank.ensures
+returns c = start_refused c.before.before.before.args.plan _ _ _ c.before.before.plan-number.ensures c.before.if1.true c.blank.ensures
 
 blank-requires-2 : tie.Need-blank-requires-2
 blank-requires-2 c κs = search rules
 
 returns-2 : tie.Need-returns-2
 unfolding start
-returns-2 c = start-accepted c.before.before.before.args.plan _ _ _ c.before.before.plan-number.ensures c.before.if1.false c.blank2.ensures
+returns-2 c = start_accepted c.before.before.before.args.plan _ _ _ c.before.before.plan-number.ensures c.before.if1.false c.blank2.ensures
 
 pub start_spec : {M : Type 1} → statement M
 start_spec =
