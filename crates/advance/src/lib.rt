@@ -32,7 +32,7 @@ fn count_one(stores: u32) -> u32
 }
 
 // What a step comes to: its number, and the phase and the count after it. The plan stays; the payload is lent.
-#[derive(Drop)]
+#[derive(Clone, Copy)]
 pub struct Advanced {
     pub number: u16,
     pub phase: Phase,

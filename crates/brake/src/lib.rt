@@ -90,7 +90,7 @@ const DRIVES: [u16; 1280] = [
 ];
 
 // The number of the refusal and drive 0, or 0 and the drive in steps of the converter.
-#[derive(Drop)]
+#[derive(Clone, Copy)]
 pub struct Driven {
     pub number: u16,
     pub drive: u16,

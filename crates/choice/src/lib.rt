@@ -9,7 +9,7 @@ use model::Direction;
 
 // The store that comes next in a unit that was looked up: the offset in the unit's span, the byte, and how many stores of the job
 // were left, 2 for more than 1. (With a narrower `left` a step takes 8 instructions more, to take the fields out of one register.)
-#[derive(Drop)]
+#[derive(Clone, Copy)]
 pub struct Choice {
     pub at: u32,
     pub byte: u8,

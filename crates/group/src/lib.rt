@@ -200,7 +200,7 @@ pub fn record_of(plan: Plan, bytes: &[u8]) -> [u8; 256]
 
 // A write of a group: its unit, and where in the payload its bytes begin, past the end where they are zeros; whether it is the
 // last; and 4 if there is no such write.
-#[derive(Drop)]
+#[derive(Clone, Copy)]
 pub struct Part {
     pub from: usize,
     pub unit: u16,

@@ -66,7 +66,7 @@ pub fn base_of(plan: Plan, unit: u16) -> usize
 
 // What one walk over a plan's widths gives: 0, or the first of refusals 1, 2 and 17; and if it is 0 the bytes of all units and of a
 // page, and where the unit asked for begins.
-#[derive(Drop)]
+#[derive(Clone, Copy)]
 pub struct Measured {
     pub base: u32,
     pub total: u32,

@@ -6,7 +6,7 @@ ghost use Rattle.list.specs.List.{item_at, items_at, list_at};
 use token::{Item, LOST, eat, entry, hex, number};
 
 // What a list is made of.
-#[derive(Drop)]
+#[derive(Clone, Copy)]
 pub enum Kind {
     Byte,
     Number,
@@ -14,7 +14,7 @@ pub enum Kind {
 }
 
 // How many items a list has, and the place past its bracket.
-#[derive(Drop)]
+#[derive(Clone, Copy)]
 pub struct Items {
     pub count: usize,
     pub next: usize,

@@ -22,7 +22,7 @@ use token::LOST;
 const IMAGE_MOST: usize = 4224;
 
 // The device after a line; `bad` if the line is no form, or may not stand where it does.
-#[derive(Drop)]
+#[derive(Clone, Copy)]
 struct Played {
     device: Device,
     bad: bool,

@@ -22,7 +22,7 @@ pub fn plan_number(plan: Plan) -> u16
 // A unit looked up: the first of the plan's refusals and 3, for an image of `length` bytes, or 4 for a unit that there is not; and if
 // it is 0 the unit's width, its first image byte and the byte past its last, and, counted from its first byte, where each copy begins.
 // The marker is the unit's first byte, and has the page before copy A.
-#[derive(Drop)]
+#[derive(Clone, Copy)]
 pub struct Span {
     pub base: u32,
     pub end: u32,

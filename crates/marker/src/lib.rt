@@ -6,7 +6,7 @@ ghost use Rattle.marker.specs.Meaning.{meaning, says_foreign};
 use model::Direction;
 
 // What a marker byte says of its unit (the "log" of documents 000 and 001).
-#[derive(Drop)]
+#[derive(Clone, Copy)]
 pub enum Marker {
     Clean,
     WritingToA,

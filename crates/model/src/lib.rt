@@ -5,7 +5,7 @@ pub mod refusals;
 
 // Units numbered from 0, each with its width in bytes. Widths past `count` are not looked at. The chip stores by pages of `page` bytes:
 // 1, 4, 8 or 16. The last unit of a grouped device is the group record. `rights` says who may see and who may write which unit.
-#[derive(Drop)]
+#[derive(Clone, Copy)]
 pub struct Plan {
     pub count: u16,
     pub widths: [u16; 8],
@@ -15,7 +15,7 @@ pub struct Plan {
 }
 
 // Who asks for a read or a begin.
-#[derive(Drop)]
+#[derive(Clone, Copy)]
 pub enum Role {
     Rider,
     Gym,
@@ -30,7 +30,7 @@ pub const SEE: u8 = 1;
 pub const SEE_AND_WRITE: u8 = 2;
 
 // What each role may do with each unit, a byte a unit. Any other byte is as good as NOTHING: what is not granted is refused.
-#[derive(Drop)]
+#[derive(Clone, Copy)]
 pub struct Rights {
     pub rider: [u8; 8],
     pub gym: [u8; 8],
@@ -38,14 +38,14 @@ pub struct Rights {
 }
 
 // The way a cleanup copies.
-#[derive(Drop)]
+#[derive(Clone, Copy)]
 pub enum Direction {
     AToB,
     BToA,
 }
 
 // What the device is at; `made` counts the stores of the job that are made, of a group those of the write that it is at.
-#[derive(Drop)]
+#[derive(Clone, Copy)]
 pub enum Phase {
     Cold,
     Ready,
@@ -65,7 +65,7 @@ pub enum Phase {
 }
 
 // What inspect hands back: a refusal's number, a unit whose marker isn't OK, or that there is none.
-#[derive(Drop)]
+#[derive(Clone, Copy)]
 pub enum Inspection {
     Refused(u16),
     Suspect(u16),

@@ -23,7 +23,7 @@ use script::Form;
 use store::{Answer, Device};
 
 // The device after a line, and how much of the buffer is used; `bad` if the line may not stand where it does.
-#[derive(Drop)]
+#[derive(Clone, Copy)]
 struct Played {
     device: Device,
     used: usize,

@@ -79,7 +79,7 @@ fn row_check(line: &[u8], from: usize, scratch: &mut [u16], i: usize) -> bool
 }
 
 // What a line comes to: 0, 12 or 13, and the offset past it.
-#[derive(Drop)]
+#[derive(Clone, Copy)]
 pub struct Past {
     pub number: u16,
     pub at: usize,

@@ -10,7 +10,7 @@ use list::{Kind, list_at};
 use token::{eat, hex, number, word};
 
 // A form. Of a list it keeps where in the line the items begin, and how many there are.
-#[derive(Drop)]
+#[derive(Clone, Copy)]
 pub enum Form {
     Plan { at: usize, count: usize, page: u16 },
     Write { unit: u16, at: usize, count: usize },
@@ -21,7 +21,7 @@ pub enum Form {
 }
 
 // What a line says.
-#[derive(Drop)]
+#[derive(Clone, Copy)]
 pub enum Line {
     Is(Form),
     Bad,

@@ -12,7 +12,7 @@ use marker::{Marker, direction_of};
 use model::{Phase, Plan};
 
 // What the search found: a unit whose marker isn't OK, with that marker, or nothing.
-#[derive(Drop)]
+#[derive(Clone, Copy)]
 pub enum Found {
     At { unit: u16, marker: u8 },
     Nothing,

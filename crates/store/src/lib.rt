@@ -22,7 +22,7 @@ use search::{Found, cleanup_from, lowest_bad};
 use till::{fare, paid_number};
 
 // `stores` counts the completed stores, for the memory chip's rating.
-#[derive(Drop)]
+#[derive(Clone, Copy)]
 pub struct Device {
     pub plan: Plan,
     pub payload: [u8; 256],
@@ -31,14 +31,14 @@ pub struct Device {
 }
 
 // The device stands first: with the number before it a pass takes 130 instructions more, in copies (docs/tickets/05.md).
-#[derive(Drop)]
+#[derive(Clone, Copy)]
 pub struct Answer {
     pub device: Device,
     pub number: u16,
 }
 
 // A unit's total; 0 when refused.
-#[derive(Drop)]
+#[derive(Clone, Copy)]
 pub struct Total {
     pub amount: u64,
     pub number: u16,

@@ -7,7 +7,7 @@ ghost use Rattle.token.specs.Token.{eat_at, word_at, digit_of, digit_at, extend_
 pub const LOST: usize = 18446744073709551615;
 
 // A value that was read, and the place past it.
-#[derive(Drop)]
+#[derive(Clone, Copy)]
 pub struct Item {
     pub value: usize,
     pub next: usize,
