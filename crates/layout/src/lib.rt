@@ -1,4 +1,6 @@
 // The plan in code: what is wrong with it, and where its units lie. The bottom layer of the library.
+#![tactic(auto)]
+
 ghost use Rattle.std.specs.Prelude.{◌≡◌, false, cond, ◌||◌, eqb, ltb, ◌+◌, ◌*◌, ◌≤◌};
 ghost use Rattle.model.specs.Plans.{PageSize, bad_page};
 ghost use Rattle.model.specs.Layout.{whole_pages, unit_length, base, width};

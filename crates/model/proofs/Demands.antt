@@ -22,7 +22,7 @@ use Rattle.model.specs.Layout.{copy_a, copy_b, Cell, marker, byte, InUnit, width
 use Rattle.model.specs.Groups.{Write, last, members, payload_of, given, stands, writes, write_at, is_last_write}
 use Rattle.model.specs.Records.{Gives, WriteOf}
 use Rattle.model.specs.Rights.{no_rights}
-use Rattle.model.specs.Refusals.{bad_write, group_number, write_total, cleanup_total, bad_job, is_cold, is_ready, first, start_number, format_number, begin_number, step_number, wake_number, cut_number, read_number, inspect_number, ride_number, total_number, paid_number}
+use Rattle.model.specs.Refusals.{bad_write, group_number, write_total, cleanup_total, bad_job, is_cold, is_ready, start_number, format_number, begin_number, step_number, wake_number, cut_number, read_number, inspect_number, ride_number, total_number, paid_number}
 use Rattle.model.specs.Turns.{amount, plus}
 use Rattle.model.specs.Prices.{price, paid_group}
 use Rattle.model.specs.Stores.{Store, store, source, target, page_left, stored}

@@ -13,7 +13,6 @@ use Rattle.model.specs.Marker.{OK}
 use Rattle.model.specs.Plans.{width}
 use Rattle.model.specs.Groups.{Write, write, last, padded, split, joined, splits, member_count, members, unsplit, overlaps, narrow, fits, payload_of, group_in, alike, given, stands, remaining, writes, nth, write_at}
 use Rattle.model.specs.Refusals.{ready, is_ready, bad_write, View, dirty, group_number, first, Refusal, device_row, ◌when◌}
-use Rattle.model.proofs.Compare.{below}
 use Rattle.model.proofs.RefusalLaws.{PlanOk, count_bounds, width_bounds, and_true, or_false, false_or, ready_only, past, first_past, first_stop, first_from, Alike}
 
 both_true : (x y : Bool) → x ≡ true → y ≡ true → x && y ≡ true

@@ -34,7 +34,7 @@ use Rattle.model.proofs.LedgerLaws.{at, noted, then, decides, own_marker, saving
 use Rattle.model.proofs.TurnLaws.{ride_alike, ride_began}
 use Rattle.model.proofs.PaidLaws.{paid_says, paid_alike}
 use Rattle.model.proofs.Tasks.{Task, alone, job_at, phase_at, task_write, follows, phased_task, part, counts_for, phased_cond}
-use Rattle.model.proofs.Invariant.{Has, Whole, Both, Clean, Frame, Safe, twice, once, Loaded, Starts, idle, still, loaded_follows, follows_starts, Stage, resting, off, opened, to_a, to_b, mending, phased, job_phased, Inv, source_off_target, both_of, whole_near, frame_near, has_more, all_clean, frame_to, frame_saving, loaded_fine, part_loaded, resumed_starts}
+use Rattle.model.proofs.Invariant.{Has, Whole, Both, Clean, Frame, Safe, twice, once, Loaded, Starts, still, loaded_follows, follows_starts, Stage, resting, off, opened, to_a, to_b, mending, phased, job_phased, Inv, source_off_target, both_of, whole_near, frame_near, has_more, all_clean, frame_to, frame_saving, loaded_fine, part_loaded, resumed_starts}
 use Rattle.model.specs.Groups.{write, last, padded, payload_of, write_at}
 use Rattle.model.proofs.GroupLaws.{Grouped, group_says, group_alike, given_is, part_fine, last_lt, writes_more}
 

@@ -11,7 +11,7 @@ use lib.Seq.{take_at}
 use borrow.Author.Tests.{leb-false, eqb-false, eq-eqb, ne_eqb, le-leb, lt-leb}
 use Rattle.model.specs.declared.Plan.{Plan}
 use Rattle.model.specs.Plans.{width}
-use Rattle.model.specs.Marker.{OK, A, B, End, completed, torn_by, marker_left}
+use Rattle.model.specs.Marker.{OK, B, End, completed, torn_by, marker_left}
 use Rattle.model.specs.Groups.{Write, write, last, padded, split, among, twice, members, given, stands, is_record, overlaps, payload_of, member_count, remaining, writes, nth, write_at, is_last_write}
 use Rattle.model.specs.Refusals.{Job, cold, ready, writing, recovering, grouping, bad_write, bad_job}
 use Rattle.model.specs.Ledger.{Ledger, Call, opening, marker_of, judged, told, saving, saving_all, count_with, accepted, fed}

@@ -17,7 +17,7 @@ use Rattle.model.specs.Calls.{Outcome}
 use Rattle.model.specs.Calls as calls
 use Rattle.model.specs.Ledger.{Ledger, Call, begin, ride, step, cut, wake, group, paid, opening, marker_of, judged, told, saving, saving_all, count_with, stepped, was_cut, accepted, fed, after}
 use Rattle.model.specs.Ledger as ledger
-use Rattle.model.specs.Records.{Splits, member, Has, Nth, head, tail}
+use Rattle.model.specs.Records.{Splits, none, member, Has, Nth, head, tail}
 use Rattle.model.specs.PowerCut.{run, closed_by}
 use Rattle.model.specs.Together.{passing, passed_by, passed, asks, later, Together, none, all, Whole, AllOrNone, NoWrite, AllOrNoneAlone}
 use Rattle.model.proofs.Compare.{equal, differ, same}
@@ -50,6 +50,7 @@ saved_last f t (tail {ms = ms} y n) =
     saved_last (saving y.unit y.bytes f) (false_or (among y.unit ms) _ t).1 n
 
 nth_unit : (p : Plan) {g : List ℕ} {ms : List Write} {i : ℕ} {x : Write} → Splits p g ms → Nth ms i x → x.unit < p.count
+nth_unit p {i = i} none n = elim n [ ]
 nth_unit p (member u payload hu size s) (head x) = hu
 nth_unit p (member u payload hu size s) (tail y n) = nth_unit p s n
 

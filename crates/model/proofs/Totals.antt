@@ -21,7 +21,6 @@ use Rattle.model.specs.Layout.{Copy, copy_a, total, copy_of}
 use Rattle.model.specs.Calls.{Outcome, view_of, total_unless_refused, AllMarkersOk}
 use Rattle.model.specs.Calls as calls
 use Rattle.model.specs.Ledger.{Ledger, Call, begin, ride, group, paid, step, cut, wake, opening, judged, told, saving, saving_all, count_with, passes_at, wrote, standing, resumed, reloaded, stepped, was_cut, accepted, fed, after}
-use Rattle.model.specs.Ledger as ledger
 use Rattle.model.specs.PowerCut.{call, run, closed_by, repair}
 use Rattle.model.specs.Demands.{MaySee}
 use Rattle.model.specs.Totals.{passes_next, due_after, counts, when_accepted, passed, sum, turns_over, OnlyRides, TurnsAddUp}

@@ -1,6 +1,6 @@
 -- Ticket 12 as rows: prices, the group of a paid ride, its numbers and their order, and lists of paid rides.
 -- proofs/CasesOfPaidRides.antt has the theorems that the definitions give every row.
-use Rattle.std.specs.Prelude.{ℕ, ◌+◌, ◌≡◌, Bool, true, false, List, [], ◌∷◌, ◌++◌, replicate}
+use Rattle.std.specs.Prelude.{ℕ, ◌≡◌, Bool, true, false, List, [], ◌∷◌, ◌++◌, replicate}
 use Rattle.model.specs.declared.Plan.{Plan}
 use Rattle.model.specs.declared.Phase.{Phase}
 use Rattle.model.specs.declared.Phase.TheVariants.{Cold, Ready, Writing}

@@ -1,6 +1,8 @@
 // The types that the save store's meaning speaks of: the plan, the roles and their rights, the phase, inspect's answer. There is no
 // function here.
 // The meaning stands in specs/; specs/PowerCut.antt has the power-cut theorem's statement.
+#![tactic(auto)]
+
 pub mod refusals;
 
 // Units numbered from 0, each with its width in bytes. Widths past `count` are not looked at. The chip stores by pages of `page` bytes:
