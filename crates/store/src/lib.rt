@@ -1,6 +1,8 @@
 // The save store: the device and its calls. A call takes the device whole and hands back its number, which is 0 or the lowest
 // refusal of document 01 that applies, and the next device. A refused call gives the device back as it came and changes no byte.
 // Every contract is an equation with the definitions of crates/model/specs/Calls.antt, or, for `steps`, of Steps.antt.
+#![tactic(auto)]
+
 ghost use Rattle.std.specs.Prelude.{◌≡◌};
 ghost use Rattle.model.specs.Refusals.{read_number};
 ghost use Rattle.model.specs.Calls.{view, start, format, begin, ride, group, paid_ride, step, wake, cut, read, total_of, inspect};
