@@ -1,5 +1,7 @@
 // Brake curves from the bike maker: a text of 20 levels by 64 entries is judged in a lent scratch that holds one row, and is read
 // again into the lent table once all of it is known to be good. The contracts are equations with specs/Curve.antt.
+#![tactic(auto)]
+
 ghost use Rattle.std.specs.Prelude.{◌≡◌, ◌≤◌, length};
 ghost use Rattle.curve.specs.Curve.{curve_of, load_number, loaded};
 
