@@ -1,5 +1,7 @@
 // The lists of calls that the power-cut theorem speaks of, given as bytes and made with the library's own calls; and what a console
 // lives through, with the theorem as its contract.
+#![tactic(auto)]
+
 ghost use Rattle.std.specs.Prelude.{◌≡◌, ℕ, ◌+◌, ◌<◌, length, get_or};
 ghost use Rattle.model.specs.Calls.{outcome, as_started, start, format, wake};
 ghost use Rattle.model.specs.PowerCut.{call, run, closed_by, repair};
