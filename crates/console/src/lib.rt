@@ -1,4 +1,6 @@
 // The console loop's one-pass routine: a thin layer over step that changes the device record in place.
+#![tactic(auto)]
+
 ghost use Rattle.model.specs.Calls.{step};
 ghost use Rattle.store.specs.Modelled.{modelled, Gives};
 
