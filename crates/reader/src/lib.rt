@@ -1,4 +1,6 @@
 // The script reader: the lent text and the offset reached, in one record.
+#![tactic(auto)]
+
 ghost use Rattle.std.specs.Prelude.{◌≡◌};
 ghost use Rattle.reader.specs.Read.{read_at};
 
