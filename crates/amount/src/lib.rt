@@ -1,4 +1,6 @@
 // Amounts as bytes, lowest byte first: the totals that a unit holds.
+#![tactic(auto)]
+
 ghost use Rattle.std.specs.Prelude.{◌≡◌, length};
 ghost use Rattle.model.specs.Turns.{amount, in_bytes};
 

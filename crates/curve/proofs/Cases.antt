@@ -1,6 +1,6 @@
 -- The rows of specs/Cases.antt, computed.
 use mathlib.Core.Path.{refl}
-use Rattle.bytes.specs.Bytes.{index_of, index_after, slice}
+use Rattle.token.specs.Scan.{index_of, index_after, slice}
 use Rattle.token.specs.Token.{eat_at, word_at, digit_of, digit_at, extend_at, more_at, entry_at}
 use Rattle.list.specs.List.{item_at, items_at}
 use Rattle.list.specs.Items.{values_at}

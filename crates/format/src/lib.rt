@@ -1,4 +1,6 @@
 // What is filled with zeros: the units at format, and the payload that a device holds.
+#![tactic(auto)]
+
 ghost use Rattle.std.specs.Prelude.{◌≡◌, ◌∷◌, ◌++◌, ◌-◌, ◌<◌, ◌≤◌, length, replicate};
 ghost use Rattle.model.specs.Layout.{total, formatted};
 ghost use Rattle.model.proofs.RefusalLaws.{PlanOk};

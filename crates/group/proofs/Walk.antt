@@ -11,7 +11,6 @@ use borrow.Author.Tests.{ltb-true, leb-true, eq-eqb, ne_eqb}
 use Rattle.model.specs.declared.Plan.{Plan}
 use Rattle.model.specs.Plans.{width}
 use Rattle.model.specs.Groups.{Write, write, last, split, splits, member_count, members, among, twice, unsplit, overlaps}
-use Rattle.model.proofs.Compare.{same}
 use Rattle.model.proofs.RefusalLaws.{and_true}
 use Rattle.model.proofs.GroupLaws.{count_splits}
 use Rattle.group.specs.Parts.{extent}

@@ -1,5 +1,7 @@
 // A group's bytes: its members, what can be wrong with them, and the record that they give. The record of a group is the member
 // count, the members, and zeros; the device holds it as its payload, and the record unit in its copies.
+#![tactic(auto)]
+
 ghost use Rattle.std.specs.Prelude.{◌≡◌, [], ◌∷◌, true, false, not, ◌||◌, ℕ, ◌≤◌, ◌<◌, leb, length, replicate};
 ghost use Rattle.model.specs.Plans.{width};
 ghost use Rattle.model.specs.Groups.{last, is_record, padded, split, splits, member_count, among, twice, unsplit, overlaps, narrow, payload_of, alike, given};

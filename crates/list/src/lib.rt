@@ -1,5 +1,7 @@
 // Lists at a place of a line, over the tokens of `token`: items with single spaces between, and the bracket that ends them. As there,
 // the place past what isn't a list is LOST.
+#![tactic(auto)]
+
 ghost use Rattle.std.specs.Prelude.{◌≡◌};
 ghost use Rattle.list.specs.List.{item_at, items_at, list_at};
 

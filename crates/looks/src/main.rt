@@ -286,7 +286,7 @@ fn play_lines(text: &[u8], from: usize, opened: Device, image: &mut [u8]) -> usi
     let mut number: usize = 1;
     let mut device = opened;
     while at < text.len() {
-        let end = bytes::scan::find(text, at, text.len(), b'\n');
+        let end = token::find(text, at, text.len(), b'\n');
         if end == at {
             return end + 1;
         }
@@ -345,7 +345,7 @@ fn play_text(text: &[u8], from: usize, image: &mut [u8]) -> usize
     requires { from < length text.now }
     ensures { from < result }
 {
-    let end = bytes::scan::find(text, from, text.len(), b'\n');
+    let end = token::find(text, from, text.len(), b'\n');
     let plan = plan_of(&text[from..end]);
     let number = plan_number(plan);
     if number != 0 {

@@ -1,5 +1,7 @@
 // A unit looked up, and refusals 1 to 4: what plan, phase and the image's length say before a byte is read. Its users are the
 // crates above it, which keep document 01's refusals in order by calling it first.
+#![tactic(auto)]
+
 ghost use Rattle.std.specs.Prelude.{◌≡◌, ◌||◌, [], ◌∷◌, leb, ◌≤◌};
 ghost use Rattle.model.specs.Plans.{width};
 ghost use Rattle.model.specs.Groups.{last};

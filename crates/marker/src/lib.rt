@@ -1,4 +1,6 @@
 // The marker byte in code: its three codes, what a byte says of its unit, and which way a cleanup copies.
+#![tactic(auto)]
+
 ghost use Rattle.std.specs.Prelude.{◌≡◌};
 ghost use Rattle.model.specs.Marker.{direction};
 ghost use Rattle.marker.specs.Meaning.{meaning, says_foreign};

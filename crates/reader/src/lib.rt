@@ -26,7 +26,7 @@ pub fn read_at(text: &[u8], at: usize) -> Read
     if text.len() <= at {
         return Read::Bad;
     }
-    let end = bytes::scan::find(text, at, text.len(), b'\n');
+    let end = token::find(text, at, text.len(), b'\n');
     let line = script::form_of(&text[at..end]);
     match line {
         script::Line::Is(form) => Read::Form {

@@ -1,4 +1,6 @@
 // What a role may do with a unit: the plan's table of rights, looked up. What is not granted is refused.
+#![tactic(auto)]
+
 ghost use Rattle.std.specs.Prelude.{◌≡◌};
 ghost use Rattle.model.specs.Rights.{line, right, may_see, may_write, service_rights};
 

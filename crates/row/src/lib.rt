@@ -99,7 +99,7 @@ pub fn line_check(text: &[u8], at: usize, scratch: &mut [u16], i: usize) -> Past
             at: at,
         };
     }
-    let end = bytes::scan::find(text, at, text.len(), b'\n');
+    let end = token::find(text, at, text.len(), b'\n');
     let from = row_at(&text[at..end], i + 1);
     if from == token::LOST {
         return Past {
@@ -153,7 +153,7 @@ pub fn line_into(text: &[u8], at: usize, table: &mut [u16], i: usize) -> usize
         ≡ take (64 * i) table.old ++ row_of (i + 1) (line_at text.now at))
         × (length table.new ≡ length table.old) }
 {
-    let end = bytes::scan::find(text, at, text.len(), b'\n');
+    let end = token::find(text, at, text.len(), b'\n');
     let from = entries_at(&text[at..end]);
     row_into(&text[at..end], from, &mut table[..], i);
     end + 1

@@ -1,4 +1,6 @@
 // One line of a bench script, read: the forms, over the tokens of `token` and the lists of `list`.
+#![tactic(auto)]
+
 ghost use Rattle.std.specs.Prelude.{◌≡◌};
 ghost use Rattle.std.proofs.lemmas.List.Edits.{sets};
 ghost use Rattle.list.specs.declared.Kind.TheVariants.{Byte};

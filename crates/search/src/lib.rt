@@ -1,5 +1,7 @@
 // The search for a unit whose marker isn't OK, and for one whose marker is foreign. Its users are the calls of the crates above,
 // which refuse first: the functions here ask that refusals 1 to 3 do not apply.
+#![tactic(auto)]
+
 ghost use Rattle.std.specs.Prelude.{◌≡◌, ◌≤◌, length};
 ghost use Rattle.model.specs.Layout.{marker, total, get};
 ghost use Rattle.model.proofs.RefusalLaws.{PlanOk};

@@ -1,6 +1,8 @@
 // Pieces of a printed line: a byte, a text, a byte in hexadecimal, a number in decimal. Each function is handed a lent buffer and a
 // place in it, and hands back the place past its text. The `requires` ask for the most bytes that a text can take, and the `ensures`
 // give that bound back.
+#![tactic(auto)]
+
 ghost use Rattle.std.specs.Prelude.{◌≡◌, [], ◌∷◌, ◌+◌, ◌*◌, ◌<◌, ◌≤◌, length};
 ghost use Rattle.text.specs.Text.{digit, hex, bytes_text, digit_at, decimal};
 ghost use Rattle.text.specs.Wrote.{Wrote};

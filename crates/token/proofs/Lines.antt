@@ -7,7 +7,7 @@ use lib.Dec.{eqb}
 use lib.ListN.{length, drop, length-drop}
 use lib.Seq.{take-length}
 use native.Mathlib.Omega.{arith}
-use Rattle.bytes.specs.Bytes.{index_after, index_of, slice}
+use Rattle.token.specs.Scan.{index_after, index_of, slice}
 use Rattle.token.specs.Lines.{line_end}
 
 index_after_le : (found : Bool) (k n : ℕ) → k ≤ n → index_after found k ≤ suc n

@@ -1,3 +1,4 @@
 pub mod Ascii
 pub mod Lines
+pub mod Scan
 pub mod Token

@@ -1,7 +1,7 @@
 -- The lines of a text: where the one at an offset ends, and its bytes.
 use Rattle.std.specs.Prelude.{ℕ, ◌+◌, ◌-◌, List, length, take, drop}
 use Prim.Native.Char.{code}
-use Rattle.bytes.specs.Bytes.{index_of, slice}
+use Rattle.token.specs.Scan.{index_of, slice}
 
 -- "LF, the last LF optional": the offset of the next LF, or the text's end
 unfoldable pub line_end : List ℕ → ℕ → ℕ

@@ -1,6 +1,9 @@
 // Tokens at a place of a line: a byte, a word, a number. Each reading function is handed the line and a place in it, and
 // hands back the place past what it read, or LOST, where nothing is read any more. So one test, at the end, tells whether all was there.
+#![tactic(auto)]
+
 ghost use Rattle.std.specs.Prelude.{◌≡◌, ◌+◌, ◌-◌, ◌*◌, ◌<◌, ◌≤◌, length};
+ghost use Rattle.token.specs.Scan.{index_of, slice};
 ghost use Rattle.token.specs.Token.{eat_at, word_at, digit_of, digit_at, extend_at, hex_at, more_at, at_most, entry_at, number_at};
 
 // The largest usize: no slice has this place.
@@ -134,4 +137,19 @@ pub fn number(line: &[u8], at: usize) -> Item
     ensures { (result ≡ number_at line.now at) × (result.value ≤ 65535) }
 {
     at_most(65535, entry(line, at))
+}
+
+// The first byte of a kind from an offset on, up to another; that other one if there is none.
+pub fn find(text: &[u8], from: usize, to: usize, byte: u8) -> usize
+    requires { (from ≤ to) × (to ≤ length text.now) }
+    ensures { (result ≡ from + index_of byte (slice from to text.now)) × (result ≤ to) }
+{
+    let mut at = from;
+    while at < to {
+        if text[at] == byte {
+            return at;
+        }
+        at = at + 1;
+    }
+    at
 }

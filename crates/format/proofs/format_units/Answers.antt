@@ -1,0 +1,45 @@
+-- `format::format_units` meets its contract. The loop's invariant: the units so far are fresh, the rest is as it was.
+use borrow.Author.Rules.{rules}
+use native.Mathlib.Omega.{arith}
+use Prim.Native.Nat.{◌+◌}
+use mathlib.Core.Path.{◌≡◌, refl, sym, ap₂}
+use lib.ListN.{length-take, length-drop}
+use Rattle.model.proofs.LayoutLaws.{unit_some, base_bound}
+use Rattle.layout.proofs.Laws.{base_more, base_none}
+use Rattle.format.proofs.Format.{fresh_more}
+use Rattle.model.specs.Layout.{fresh, formatted}
+use Rattle.format.proofs.format_units.Goals as goal
+
+pub loop-unit-init : goal.loop-unit-init
+unfolding fresh
+loop-unit-init c = (omega arith, sym (base_none c.args.plan), refl, refl)
+
+pub overflow_add-end : goal.overflow_add-end
+overflow_add-end c = let p = c.args.plan in
+    omega (arith, base_bound p c.requires.0 c.loop-unit.unit p.count c.loop-unit-test.true, c.requires.1, c.loop-unit.invariant.1, c.unit_length.ensures.0)
+
+pub slice_bounds-format_unit-end : goal.slice_bounds-format_unit-end
+slice_bounds-format_unit-end c = let p = c.args.plan in
+    omega (arith, base_bound p c.requires.0 c.loop-unit.unit p.count c.loop-unit-test.true, c.requires.1, c.loop-unit.invariant.1, c.loop-unit.invariant.2, c.unit_length.ensures.0)
+
+pub format_unit-requires : goal.format_unit-requires
+format_unit-requires c = let p = c.args.plan in
+    let h = c.loop-unit in
+    simp (length-take, length-drop)
+    (omega (arith, unit_some p c.requires.0 h.unit, base_bound p c.requires.0 h.unit p.count c.loop-unit-test.true, c.requires.1, h.invariant.1, h.invariant.2, c.unit_length.ensures.0))
+
+pub loop-unit-preserved : goal.loop-unit-preserved
+loop-unit-preserved c = let a = c.args in
+    let p = a.plan in
+    let bound = base_bound p c.requires.0 c.loop-unit.unit p.count c.loop-unit-test.true in
+    let length-is = c.unit_length.ensures.0 in (
+      omega arith,
+      rw (base_more p c.loop-unit.unit) (ap₂ ◌+◌ c.loop-unit.invariant.1 length-is),
+      search rules,
+      fresh_more p c.requires.0 c.loop-unit.unit c.loop-unit.base _ a.image.now c.loop-unit.image c.format_unit.new.span c.loop-unit.invariant.1 length-is (omega (arith, c.requires.1)) c.loop-unit.invariant.3 c.format_unit.ensures,
+    )
+
+pub returns : goal.returns
+unfolding formatted
+returns c = let e : c.loop-unit.unit ≡ c.args.plan.count = omega arith in
+    rw (c.loop-unit.invariant.1, e) at c.loop-unit.invariant.3
