@@ -2,7 +2,7 @@
 use Prim.Native.Nat.{ℕ, zero, suc, ◌+◌, ◌<◌, ◌≤◌}
 use mathlib.Core.Path.{◌≡◌, refl, ap, ap₂, sym, ◌∙◌, subst}
 use mathlib.Core.List.{List, [], ◌∷◌, ◌++◌}
-use mathlib.Core.Option.{Option, some}
+use mathlib.Core.Option.{Option}
 use mathlib.Core.Bool.{Bool, true, false, ◌||◌}
 use native.Mathlib.Omega.{arith}
 use native.Mathlib.Numerals.{add-one}
@@ -22,7 +22,7 @@ use Rattle.model.specs.Marker.{completed}
 use Rattle.model.specs.Layout.{width, offset, base, total, put}
 use Rattle.model.specs.Refusals.{SHORT-IMAGE, BAD-JOB, is_cold, is_ready, bad_write, bad_job, write_total, cleanup_total, ◌when◌, first, plan_row, device_row, start_number, step_number}
 use Rattle.model.specs.Groups.{write_at}
-use Rattle.model.specs.Stores.{Store, store, write_stores, stored}
+use Rattle.model.specs.Stores.{Store, write_stores, stored}
 use Rattle.model.specs.Calls.{job_of, view_of, counted, next, image_after, cleanup_from, resumed, reloaded, phase_after, payload_after, step}
 use Rattle.model.proofs.Compare.{equal, differ, same}
 use Rattle.model.proofs.RefusalLaws.{PlanOk, start_says, start_fine, count_bounds, plan_passed, first_skip, first_stop, first_none, first_refused, first_from, step_cold, step_ready}

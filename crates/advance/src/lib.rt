@@ -1,4 +1,6 @@
 // A step, and steps in a row, on the parts of a device: the store that comes next, the phase after it, and the count.
+#![tactic(auto)]
+
 ghost use Rattle.std.specs.Prelude.{◌≡◌, ◌≤◌, length};
 ghost use Rattle.lookup.specs.Spans.{Spans, Sound};
 ghost use Rattle.model.specs.declared.Phase.TheVariants.{Recovering, Grouping};

@@ -1,5 +1,7 @@
 // The brake's drive, by one look-up. Document 01, 'Brake drive': "Drive = 100 + 160 × l + floor(l × c / 2), in steps of a
 // 12-bit converter." The rule itself stands in the model's specs/Drive.antt.
+#![tactic(auto)]
+
 ghost use Rattle.std.specs.Prelude.{◌≡◌, ◌+◌, ◌*◌, ◌-◌, ◌/◌};
 ghost use Rattle.model.specs.Drive.{drive_number, drive};
 ghost use Rattle.brake.specs.Over.{drive_over_number, drive_over, Answers};

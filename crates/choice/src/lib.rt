@@ -1,4 +1,6 @@
 // Which store comes next in a write or a cleanup: where in its unit, with which byte, and how many were left.
+#![tactic(auto)]
+
 ghost use Rattle.std.specs.Prelude.{◌≡◌, ◌≤◌, length, get_or};
 ghost use Rattle.lookup.specs.Spans.{Sound};
 ghost use Rattle.choice.specs.Picked.{Writes, Cleans};

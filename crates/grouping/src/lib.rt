@@ -1,4 +1,6 @@
 // What refuses a group.
+#![tactic(auto)]
+
 ghost use Rattle.std.specs.Prelude.{◌≡◌, true, ℕ, ◌≤◌, length};
 ghost use Rattle.model.specs.Layout.{marker, total, get};
 ghost use Rattle.model.specs.Groups.{split, splits};

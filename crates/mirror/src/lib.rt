@@ -1,4 +1,6 @@
 // How a store of a unit that was looked up ends: whole, or torn by a power cut.
+#![tactic(auto)]
+
 ghost use Rattle.std.specs.Prelude.{◌≡◌, ◌∷◌, ◌+◌, ◌<◌, ◌≤◌, length, set, drop};
 ghost use Rattle.std.proofs.lemmas.List.Edits.{sets};
 ghost use Rattle.model.specs.declared.Phase.TheVariants.{Grouping};

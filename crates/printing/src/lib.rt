@@ -1,5 +1,7 @@
 // Prints the bench's lines into a lent buffer, piece by piece. Its one user is the bench program, which sees to the space before it
 // calls, as the `requires` ask.
+#![tactic(auto)]
+
 ghost use Rattle.std.specs.Prelude.{◌≡◌, ◌+◌, ◌*◌, ◌<◌, ◌≤◌, length};
 ghost use Rattle.model.specs.Layout.{total};
 ghost use Rattle.model.specs.Refusals.{start_number};

@@ -1,5 +1,7 @@
 // The refusals: what a call answers by number, 0 or the first of document 01 and the tickets that applies. Inspect, which has the
 // plan's, 3 and 4 alone, asks `lookup`.
+#![tactic(auto)]
+
 ghost use Rattle.std.specs.Prelude.{◌≡◌, [], ◌∷◌, ◌++◌, not, ◌||◌, ◌≤◌, ◌<◌, eqb, length};
 ghost use Rattle.model.specs.Refusals.{is_cold, is_ready, ◌when◌, first, format_number, cut_number, wake_number, step_number, read_number, begin_number};
 ghost use Rattle.model.specs.Marker.{OK};

@@ -1,4 +1,6 @@
 // Where a repair goes on: a group record that stands once every marker is OK.
+#![tactic(auto)]
+
 ghost use Rattle.std.specs.Prelude.{◌≡◌, ◌≤◌, length};
 ghost use Rattle.model.specs.Layout.{total};
 ghost use Rattle.model.specs.Calls.{record_in, resumed, reloaded};

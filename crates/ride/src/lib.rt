@@ -1,4 +1,6 @@
 // Rides: the turns of a ride are added to the total that unit 0 holds. What refuses a ride and a total, and what a ride writes.
+#![tactic(auto)]
+
 ghost use Rattle.std.specs.Prelude.{◌≡◌, ◌+◌, ◌≤◌, length, take, drop};
 ghost use Rattle.model.specs.Layout.{copy_a, copy_of};
 ghost use Rattle.model.specs.Turns.{amount, plus};

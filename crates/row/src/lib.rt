@@ -1,6 +1,8 @@
 // A line of a brake curve, read twice. First its form and its entries are judged, against a scratch that holds the row one level
 // lower and then this one. Once the whole text is known to be good, its entries are read into the table.
 // The contracts are equations with specs/Row.antt.
+#![tactic(auto)]
+
 ghost use Rattle.std.specs.Prelude.{◌≡◌, true, ◌||◌, ◌&&◌, ◌++◌, ℕ, ◌+◌, ◌*◌, ◌<◌, ◌≤◌, eqb, ltb, leb, length, take, get_or};
 ghost use Rattle.token.specs.Token.{lost};
 ghost use Rattle.token.specs.Lines.{line_end, line_at};

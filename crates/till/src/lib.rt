@@ -1,4 +1,6 @@
 // Paid rides: what a ride costs, what refuses a paid ride, and the group that it saves: the turns in unit 0, the cents in unit 1.
+#![tactic(auto)]
+
 ghost use Rattle.std.specs.Prelude.{◌≡◌, not, ◌||◌, [], ◌∷◌, ◌++◌, ◌+◌, ◌≤◌, ◌<◌, eqb, ltb, length};
 ghost use Rattle.model.specs.Marker.{OK};
 ghost use Rattle.model.specs.Layout.{copy_a, marker, width, total, get, copy_of};
