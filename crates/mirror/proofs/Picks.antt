@@ -153,7 +153,7 @@ module _ (p : Plan) (payload : List ℕ) (phase : Phase) (image page : List ℕ)
   module _ (e : phase ≡ Writing u made) where
     writing_row : PlanOk p → bad_job p payload (job_of phase) ≡ false → (u < p.count) × (made < write_total (width p u))
     unfolding bad_job
-    writing_row ok h = in_job p.count u (write_total (width p u)) made (ap (λ (x : Phase). bad_job p payload (job_of x)) (sym e) ∙ h)
+    writing_row _ h = in_job p.count u (write_total (width p u)) made (ap (λ (x : Phase). bad_job p payload (job_of x)) (sym e) ∙ h)
 
     writing_next : next p payload image phase ≡ get_elem? (write_stores p u payload) made
     unfolding next
@@ -172,7 +172,7 @@ module _ (p : Plan) (payload : List ℕ) (phase : Phase) (image page : List ℕ)
   module _ (d : Direction) (e : phase ≡ Recovering u made d) where
     cleaning_row : PlanOk p → bad_job p payload (job_of phase) ≡ false → (u < p.count) × (made < cleanup_total (width p u))
     unfolding bad_job
-    cleaning_row ok h = in_job p.count u (cleanup_total (width p u)) made (ap (λ (x : Phase). bad_job p payload (job_of x)) (sym e) ∙ h)
+    cleaning_row _ h = in_job p.count u (cleanup_total (width p u)) made (ap (λ (x : Phase). bad_job p payload (job_of x)) (sym e) ∙ h)
 
     cleaning_next : next p payload image phase ≡ get_elem? (cleanup_stores p image u d) made
     unfolding next

@@ -12,15 +12,15 @@ pub bounds-bytes-i : goal.bounds-bytes-i
 bounds-bytes-i c = omega arith
 
 pub overflow_cast-value : goal.overflow_cast-value
-overflow_cast-value c = wider (c.shared_slice_known-1.given _)
+overflow_cast-value c = wider (c.type_inv.bytes _)
 
 pub overflow_mul-value : goal.overflow_mul-value
 overflow_mul-value c = let i = c.loop-i.i in
-    omega (arith, rest_small 7 (8 - i) c.args.bytes.now (omega arith) c.shared_slice_known-1.given)
+    omega (arith, rest_small 7 (8 - i) c.args.bytes.now (omega arith) c.type_inv.bytes)
 
 pub overflow_add-value : goal.overflow_add-value
 overflow_add-value c = let i = c.loop-i.i in
-    added _ _ (c.shared_slice_known-1.given _) (omega (arith, rest_small 7 (8 - i) c.args.bytes.now (omega arith) c.shared_slice_known-1.given))
+    added _ _ (c.type_inv.bytes _) (omega (arith, rest_small 7 (8 - i) c.args.bytes.now (omega arith) c.type_inv.bytes))
 
 pub loop-i-preserved : goal.loop-i-preserved
 loop-i-preserved c = let i = c.loop-i.i in

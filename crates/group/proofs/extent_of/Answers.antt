@@ -10,9 +10,6 @@ loop-passed-init c = reached_none _ _ _
 pub returns-then-length-at : goal.returns-then-length-at
 returns-then-length-at c = sym (reached_end c.loop-passed.invariant (omega arith))
 
-pub overflow_cast-bytes : goal.overflow_cast-bytes
-overflow_cast-bytes c = omega (arith, c.shared_slice_known-in-loop-passed-1.given c.loop-passed.at)
-
 pub returns-then-length-at-2 : goal.returns-then-length-at-2
 returns-then-length-at-2 c = sym (reached_short c.loop-passed.invariant _ (omega arith) (omega arith) c.width_of-width.ensures (omega arith))
 

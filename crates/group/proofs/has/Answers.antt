@@ -8,9 +8,6 @@ use Rattle.group.proofs.has.Goals as goal
 pub loop-at-init : goal.loop-at-init
 loop-at-init c = (omega arith, goes_start _ _ _)
 
-pub overflow_cast-member : goal.overflow_cast-member
-overflow_cast-member c = omega (arith, c.shared_slice_known-in-loop-at-1.given c.loop-at.at)
-
 pub returns-then-unit-member : goal.returns-then-unit-member
 returns-then-unit-member c = has_it c.loop-at.invariant.1 (omega arith) c.if-unit-member.true
 

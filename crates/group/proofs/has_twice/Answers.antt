@@ -10,9 +10,6 @@ use Rattle.group.proofs.has_twice.Goals as goal
 pub loop-at-init : goal.loop-at-init
 loop-at-init c = (omega arith, goes_start _ _ _)
 
-pub overflow_cast-member : goal.overflow_cast-member
-overflow_cast-member c = omega (arith, c.shared_slice_known-in-loop-at-1.given c.loop-at.at)
-
 pub returns-then-length-at : goal.returns-then-length-at
 returns-then-length-at c = short_not c.loop-at.invariant.1 _ (omega arith) c.width_of-width.ensures (omega arith)
 

@@ -7,9 +7,6 @@ use Rattle.group.proofs.member_count.Goals as goal
 pub loop-at-init : goal.loop-at-init
 loop-at-init c = (omega arith, omega arith, walked_none _ _)
 
-pub overflow_cast-unit : goal.overflow_cast-unit
-overflow_cast-unit c = omega (arith, c.shared_slice_known-in-loop-at-1.given c.loop-at.at)
-
 pub returns-then-plan-unit : goal.returns-then-plan-unit
 returns-then-plan-unit c = sym (walked_no_unit c.loop-at.invariant.2 (omega arith) c.if-plan-unit.true)
 

@@ -1,6 +1,6 @@
 -- `group::part_of` meets its contract: the record, a member, the zeros, or no such write.
 use native.Mathlib.Omega.{arith}
-use Prim.Native.Nat.{ℕ, ◌+◌}
+use Prim.Native.Nat.{ℕ}
 use mathlib.Core.Path.{refl, ap, ◌∙◌}
 use mathlib.Core.Bool.{true, false}
 use Rattle.group.proofs.Record.{reach_small}
@@ -9,12 +9,6 @@ use Rattle.group.proofs.part_of.Goals as goal
 
 pub returns-then-not-stands : goal.returns-then-not-stands
 returns-then-not-stands c = found_as refl c.found.ensures (none_found _ _ _ (no_record_lem _ _ _ (given_full _ _ c.requires.1 c.stands.ensures ∙ c.if-not-stands.true)))
-
-pub overflow_cast-members : goal.overflow_cast-members
-overflow_cast-members c = omega (arith, c.shared_slice_known-2-1.given 0)
-
-pub overflow_add-members : goal.overflow_add-members
-overflow_add-members c = omega (arith, c.shared_slice_known-2-1.given 0)
 
 pub returns-then-members-write : goal.returns-then-members-write
 returns-then-members-write c = let a = c.args in
@@ -27,9 +21,6 @@ returns-then-write-eq0 c = let a = c.args in
     let v = given_full a.plan a.payload.now c.requires.1 c.stands.ensures ∙ c.if-not-stands.false in
     let s = standing_full a.plan a.payload.now c.requires.1 c.requires.0 v in
     found_as c.if-write-eq0.true (c.found-then-write-eq0.ensures ∙ ap (λ (u : ℕ). a_part 0 u false) c.last_of.ensures) (record_found a.plan a.payload.now c.requires.1 v s)
-
-pub overflow_add-members-2 : goal.overflow_add-members-2
-overflow_add-members-2 c = omega (arith, c.shared_slice_known-2-1.given 0)
 
 pub returns-then-write-members : goal.returns-then-write-members
 returns-then-write-members c = let a = c.args in
@@ -46,9 +37,6 @@ bounds-payload-at c = let a = c.args in
     let s = standing_full a.plan a.payload.now c.requires.1 c.requires.0 v in
     let m = members_are a.plan a.payload.now c.requires.1 v s in
     omega (arith, c.requires.1, member_inside a.plan a.payload.now c.requires.1 v s a.write (omega arith) (omega (arith, c.if-write-members.false, c.if-members-write.false)) c.extent_of-at.ensures)
-
-pub overflow_cast-payload : goal.overflow_cast-payload
-overflow_cast-payload c = omega (arith, c.shared_slice_known-3-1.given (1 + c.extent_of-at.result))
 
 pub overflow_add-at-2 : goal.overflow_add-at-2
 overflow_add-at-2 c = omega (arith, c.requires.1, reach_small c.args.plan c.args.payload.now _ c.extent_of-at.ensures)

@@ -8,9 +8,6 @@ use Rattle.group.proofs.stands.Goals as goal
 pub returns-then-bytes-eq0 : goal.returns-then-bytes-eq0
 returns-then-bytes-eq0 c = record_none c.args.plan c.args.bytes.now c.requires.1 c.requires.0 c.if-bytes-eq0.true
 
-pub overflow_cast-members : goal.overflow_cast-members
-overflow_cast-members c = omega (arith, c.shared_slice_known-2-1.given 0)
-
 pub overflow_add-past : goal.overflow_add-past
 overflow_add-past c = omega (arith, reach_small c.args.plan c.args.bytes.now _ c.extent_of-past.ensures)
 

@@ -9,9 +9,6 @@ use Rattle.grouping.proofs.any_dirty.Goals as goal
 pub loop-at-init : goal.loop-at-init
 loop-at-init c = (omega arith, goes_start _ _ _)
 
-pub overflow_cast-unit : goal.overflow_cast-unit
-overflow_cast-unit c = omega (arith, c.shared_slice_known-in-loop-at-1.given c.loop-at.at)
-
 pub returns-then-plan-unit : goal.returns-then-plan-unit
 returns-then-plan-unit c = no_unit_lem _ c.loop-at.invariant.1 (omega arith) c.if-plan-unit.true
 

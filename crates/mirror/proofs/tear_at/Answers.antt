@@ -21,7 +21,7 @@ bounds-image-first c = let a = c.args in
 pub put_page-requires : goal.put_page-requires
 put_page-requires c = let a = c.args in
     let e = page_by_mask a.span.a a.at c.requires.0.page in
-    (omega (arith, c.requires.0.marker, c.requires.1), omega (arith, e, c.requires.1, c.requires.2, c.requires.3, c.put_page-arg-1.given))
+    (omega (arith, c.requires.0.marker, c.requires.1), omega (arith, e, c.requires.1, c.requires.2, c.requires.3))
 
 pub returns : goal.returns
 returns c = let a = c.args in

@@ -15,9 +15,6 @@ pub returns-then-i-eq0 : goal.returns-then-i-eq0
 returns-then-i-eq0 c = let a = c.args in
     rw (le-leb a.value 4095 (omega (arith, c.if-value-gt4095.false)), le-leb _ _ c.if-value-before.false, eq-eqb a.i 0 (omega (arith, c.if-i-eq0.true)))
 
-pub overflow_cast-lower : goal.overflow_cast-lower
-overflow_cast-lower c = omega (arith, c.shared_slice_known-1.given c.args.j)
-
 pub returns : goal.returns
 returns c = let a = c.args in
     rw (le-leb a.value 4095 (omega (arith, c.if-value-gt4095.false)), le-leb _ _ c.if-value-before.false, ne_eqb a.i 0 (λ z. absurd (omega (arith, c.if-i-eq0.false, z))))
