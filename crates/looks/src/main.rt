@@ -2,19 +2,21 @@
 // line before each but the first. The stored input is simulator/looks.in and simulator/looks-pages.in, and the stored output is what
 // the simulator printed for them: every read, every inspect and all 1,280 drives are held against a witness that was written from the
 // document and the tickets alone.
-ghost use Rattle.std.specs.Prelude.{◌≡◌, ◌<◌, ◌≤◌, length};
+#![tactic(auto)]
+
+ghost use Rattle.std.specs.Prelude.{◌≡◌, ◌<◌, ◌≤◌, length, IfOk};
 ghost use Rattle.model.specs.Layout.{total};
 ghost use Rattle.model.specs.Refusals.{start_number};
 
 use brake::drive;
-use io::{print_decimal, print_hex};
 use layout::base_of;
-use libc::{STDIN_FILENO, STDOUT_FILENO};
 use lookup::plan_number;
 use model::{Inspection, Plan, Role};
 use printing::put_unit;
 use rights::service_rights;
 use script::{Form, Line};
+use std::io;
+use std::io::Read;
 use store::{Answer, Device};
 use token::LOST;
 
@@ -29,118 +31,134 @@ struct Played {
 }
 
 // A word and a number; the line goes on.
-fn say(word: &[u8], number: u16) {
-    io::write_all(STDOUT_FILENO, word);
-    io::write_all(STDOUT_FILENO, b" ");
-    print_decimal(STDOUT_FILENO, number as u64);
+fn say<W: io::Write>(writer: &mut W, word: &[u8], number: u16) -> io::Result<()> {
+    writer.write_all(word)?;
+    writer.write_all(b" ")?;
+    write!(writer, "{number}")
 }
 
 // The last word of a line.
-fn end_word(word: &[u8]) {
-    io::write_all(STDOUT_FILENO, word);
-    io::write_all(STDOUT_FILENO, b"\n");
+fn end_word<W: io::Write>(writer: &mut W, word: &[u8]) -> io::Result<()> {
+    writer.write_all(word)?;
+    writer.write_all(b"\n")
 }
 
-fn say_line(word: &[u8], number: u16) {
-    say(word, number);
-    end_word(b"");
+fn say_line<W: io::Write>(writer: &mut W, word: &[u8], number: u16) -> io::Result<()> {
+    say(writer, word, number)?;
+    end_word(writer, b"")
 }
 
-fn say_byte(byte: u8) {
-    print_hex(STDOUT_FILENO, byte as u64, 2);
+fn say_byte<W: io::Write>(writer: &mut W, byte: u8) -> io::Result<()> {
+    write!(writer, "{byte:02x}")
 }
 
 // Each byte in hexadecimal: the first after a bracket, the others after a space.
-fn say_bytes(bytes: &[u8]) {
+fn say_bytes<W: io::Write>(writer: &mut W, bytes: &[u8]) -> io::Result<()> {
     let mut before = b'(';
     let mut i: usize = 0;
     while i < bytes.len() {
-        io::write_all(STDOUT_FILENO, &[before]);
-        say_byte(bytes[i]);
+        writer.write_all(&[before])?;
+        say_byte(writer, bytes[i])?;
         before = b' ';
         i = i + 1;
     }
+    Ok(())
 }
 
-fn say_part(device: Device, image: &[u8], unit: u16) {
+fn say_part<W: io::Write>(
+    writer: &mut W,
+    device: Device,
+    image: &[u8],
+    unit: u16,
+) -> io::Result<()> {
     let number = device.read_number(image, Role::Service, unit);
     if number != 0 {
-        say_line(b"read", number);
-        return;
+        return say_line(writer, b"read", number);
     }
-    io::write_all(STDOUT_FILENO, b"read 0 ");
-    say_bytes(device.read(image, Role::Service, unit));
-    end_word(b")");
+    writer.write_all(b"read 0 ")?;
+    say_bytes(writer, device.read(image, Role::Service, unit))?;
+    end_word(writer, b")")
 }
 
 // `(read U)`. This and the next three hand back whether the line was theirs.
-fn say_read(line: &[u8], device: Device, image: &[u8]) -> bool {
+fn say_read<W: io::Write>(
+    writer: &mut W,
+    line: &[u8],
+    device: Device,
+    image: &[u8],
+) -> io::Result<bool> {
     let item = token::number(line, token::word(line, 0, b"(read "));
     if item.next == LOST {
-        return false;
+        return Ok(false);
     }
-    say_part(device, image, item.value as u16);
-    true
+    say_part(writer, device, image, item.value as u16)?;
+    Ok(true)
 }
 
-fn say_inspection(inspection: Inspection) {
+fn say_inspection<W: io::Write>(writer: &mut W, inspection: Inspection) -> io::Result<()> {
     match inspection {
-        Inspection::Refused(number) => say_line(b"inspect refused", number),
-        Inspection::Suspect(unit) => say_line(b"inspect unit", unit),
-        Inspection::AllOk => end_word(b"inspect none"),
+        Inspection::Refused(number) => say_line(writer, b"inspect refused", number),
+        Inspection::Suspect(unit) => say_line(writer, b"inspect unit", unit),
+        Inspection::AllOk => end_word(writer, b"inspect none"),
     }
 }
 
 // `(inspect)`
-fn say_inspect(line: &[u8], device: Device, image: &[u8]) -> bool {
+fn say_inspect<W: io::Write>(
+    writer: &mut W,
+    line: &[u8],
+    device: Device,
+    image: &[u8],
+) -> io::Result<bool> {
     if token::word(line, 0, b"(inspect)") == LOST {
-        return false;
+        return Ok(false);
     }
-    say_inspection(device.inspect(image));
-    true
+    say_inspection(writer, device.inspect(image))?;
+    Ok(true)
 }
 
 // `(drive L R)`
-fn say_drive(line: &[u8]) -> bool {
+fn say_drive<W: io::Write>(writer: &mut W, line: &[u8]) -> io::Result<bool> {
     let level = token::number(line, token::word(line, 0, b"(drive "));
     let rate = token::number(line, token::eat(line, level.next, b' '));
     if rate.next == LOST {
-        return false;
+        return Ok(false);
     }
     let driven = drive(level.value as u16, rate.value as u16);
-    say(b"drive", driven.number);
-    say_line(b"", driven.drive);
-    true
+    say(writer, b"drive", driven.number)?;
+    say_line(writer, b"", driven.drive)?;
+    Ok(true)
 }
 
 // A level's drives, bin by bin.
-fn say_level(level: u16) {
-    say(b"level", level);
+fn say_level<W: io::Write>(writer: &mut W, level: u16) -> io::Result<()> {
+    say(writer, b"level", level)?;
     let mut bin: u16 = 0;
     while bin < 64 {
         let driven = drive(level, 4 * bin);
-        say(b"", driven.drive);
+        say(writer, b"", driven.drive)?;
         bin = bin + 1;
     }
-    end_word(b"");
+    end_word(writer, b"")
 }
 
 // All levels.
-fn say_levels() {
+fn say_levels<W: io::Write>(writer: &mut W) -> io::Result<()> {
     let mut level: u16 = 1;
     while level <= 20 {
-        say_level(level);
+        say_level(writer, level)?;
         level = level + 1;
     }
+    Ok(())
 }
 
 // `(drives)`
-fn say_drives(line: &[u8]) -> bool {
+fn say_drives<W: io::Write>(writer: &mut W, line: &[u8]) -> io::Result<bool> {
     if token::word(line, 0, b"(drives)") == LOST {
-        return false;
+        return Ok(false);
     }
-    say_levels();
-    true
+    say_levels(writer)?;
+    Ok(true)
 }
 
 // `(set I HH)`: false also for a byte that is not in the image.
@@ -161,38 +179,44 @@ fn set(line: &[u8], image: &mut [u8]) -> bool
 }
 
 // A line that is none of the bench's forms: whether it is one of these.
-fn look(line: &[u8], device: Device, image: &mut [u8]) -> bool
+fn look<W: io::Write>(
+    writer: &mut W,
+    line: &[u8],
+    device: Device,
+    image: &mut [u8],
+) -> io::Result<bool>
     ensures { length image.new ≡ length image.old }
 {
-    let read = say_read(line, device, &image[..]);
-    let inspected = say_inspect(line, device, &image[..]);
-    let driven = say_drive(line) | say_drives(line);
+    let read = say_read(writer, line, device, &image[..])?;
+    let inspected = say_inspect(writer, line, device, &image[..])?;
+    let driven = say_drive(writer, line)? | say_drives(writer, line)?;
     let changed = set(line, &mut image[..]);
-    (read | inspected) | (driven | changed)
+    Ok((read | inspected) | (driven | changed))
 }
 
 // A unit of an accepted plan, as the bench prints it.
-fn say_unit(plan: Plan, image: &[u8], unit: u16)
+fn say_unit<W: io::Write>(writer: &mut W, plan: Plan, image: &[u8], unit: u16) -> io::Result<()>
     requires { (start_number plan ≡ 0) × (total plan ≤ length image.now) × (unit < plan.count) }
 {
     let mut out = [0u8; printing::LINE_MOST];
     let end = put_unit(&mut out, 0, plan, image, unit);
-    io::write_all(STDOUT_FILENO, &out[..end]);
+    writer.write_all(&out[..end])
 }
 
 // `(show)`
-fn show(plan: Plan, image: &[u8]) {
+fn show<W: io::Write>(writer: &mut W, plan: Plan, image: &[u8]) -> io::Result<()> {
     if plan_number(plan) != 0 {
-        return;
+        return Ok(());
     }
     if image.len() < base_of(plan, plan.count) {
-        return;
+        return Ok(());
     }
     let mut unit: u16 = 0;
     while unit < plan.count {
-        say_unit(plan, image, unit);
+        say_unit(writer, plan, image, unit)?;
         unit = unit + 1;
     }
+    Ok(())
 }
 
 // Begins a write of the bytes that a line lists.
@@ -218,69 +242,91 @@ fn cut(line: &[u8], device: Device, image: &mut [u8], at: usize, count: usize) -
 }
 
 // Prints a call's word and number, and hands its device on.
-fn told(word: &[u8], answer: Answer) -> Played {
-    say_line(word, answer.number);
+fn told<W: io::Write>(writer: &mut W, word: &[u8], answer: Answer) -> io::Result<Played> {
+    say_line(writer, word, answer.number)?;
     let device = answer.device;
-    Played {
+    Ok(Played {
         device: device,
         bad: false,
-    }
+    })
 }
 
-fn shown(device: Device, image: &[u8]) -> Played {
-    show(device.plan, image);
-    Played {
+fn shown<W: io::Write>(writer: &mut W, device: Device, image: &[u8]) -> io::Result<Played> {
+    show(writer, device.plan, image)?;
+    Ok(Played {
         device: device,
         bad: false,
-    }
+    })
 }
 
 // One of the bench's forms after the plan's.
-fn play(form: Form, line: &[u8], device: Device, image: &mut [u8]) -> Played
+fn play<W: io::Write>(
+    writer: &mut W,
+    form: Form,
+    line: &[u8],
+    device: Device,
+    image: &mut [u8],
+) -> io::Result<Played>
     ensures { length image.new ≡ length image.old }
 {
     match form {
         // "must be the first line and no other"
-        Form::Plan { .. } => Played {
+        Form::Plan { .. } => Ok(Played {
             device: device,
             bad: true,
-        },
+        }),
         Form::Write { unit, at, count } => told(
+            writer,
             b"write",
             write(line, device, &image[..], unit, at, count),
         ),
-        Form::Step(count) => told(b"step", device.steps(&mut image[..], count)),
-        Form::Cut { at, count } => told(b"cut", cut(line, device, &mut image[..], at, count)),
-        Form::Wake => told(b"wake", device.wake(&image[..])),
-        Form::Show => shown(device, &image[..]),
+        Form::Step(count) => told(writer, b"step", device.steps(&mut image[..], count)),
+        Form::Cut { at, count } => told(
+            writer,
+            b"cut",
+            cut(line, device, &mut image[..], at, count),
+        ),
+        Form::Wake => told(writer, b"wake", device.wake(&image[..])),
+        Form::Show => shown(writer, device, &image[..]),
     }
 }
 
 // Plays a line after the plan's.
-fn play_line(line: &[u8], device: Device, image: &mut [u8]) -> Played
+fn play_line<W: io::Write>(
+    writer: &mut W,
+    line: &[u8],
+    device: Device,
+    image: &mut [u8],
+) -> io::Result<Played>
     ensures { length image.new ≡ length image.old }
 {
     let Line::Is(form) = script::form_of(line) else {
-        let known = look(line, device, &mut image[..]);
-        return Played {
+        let known = look(writer, line, device, &mut image[..])?;
+        return Ok(Played {
             device: device,
             bad: !known,
-        };
+        });
     };
-    play(form, line, device, &mut image[..])
+    play(writer, form, line, device, &mut image[..])
 }
 
 // A bad line, by its number.
-fn say_bad(number: usize) {
-    io::write_all(STDOUT_FILENO, b"bad ");
-    print_decimal(STDOUT_FILENO, number as u64);
-    end_word(b"");
+fn say_bad<W: io::Write>(writer: &mut W, number: usize) -> io::Result<()> {
+    writer.write_all(b"bad ")?;
+    write!(writer, "{number}")?;
+    end_word(writer, b"")
 }
 
 // Plays the lines from an offset on, to an empty line or a bad one, which ends them all. Where the next text begins.
-fn play_lines(text: &[u8], from: usize, opened: Device, image: &mut [u8]) -> usize
+fn play_lines<W: io::Write>(
+    writer: &mut W,
+    text: &[u8],
+    from: usize,
+    opened: Device,
+    image: &mut [u8],
+) -> io::Result<usize>
     requires { 0 < from }
-    ensures { from ≤ result }
+    ensures { IfOk result (λ next. from ≤ next) }
 {
     let mut at = from;
     let mut number: usize = 1;
@@ -288,29 +334,35 @@ fn play_lines(text: &[u8], from: usize, opened: Device, image: &mut [u8]) -> usi
     while at < text.len() {
         let end = token::find(text, at, text.len(), b'\n');
         if end == at {
-            return end + 1;
+            return Ok(end + 1);
         }
         number = number + 1;
-        let after = play_line(&text[at..end], device, &mut image[..]);
+        let after = play_line(writer, &text[at..end], device, &mut image[..])?;
         if after.bad {
-            say_bad(number);
-            return text.len();
+            say_bad(writer, number)?;
+            return Ok(text.len());
         }
         device = after.device;
         at = end + 1;
     }
-    at
+    Ok(at)
 }
 
 // Start, and format over an image of exactly the units' length; then the lines from an offset on.
-fn run(text: &[u8], from: usize, plan: Plan, image: &mut [u8]) -> usize
+fn run<W: io::Write>(
+    writer: &mut W,
+    text: &[u8],
+    from: usize,
+    plan: Plan,
+    image: &mut [u8],
+) -> io::Result<usize>
     requires { 0 < from }
-    ensures { from ≤ result }
+    ensures { IfOk result (λ next. from ≤ next) }
 {
     let started = Device::start(plan);
     let formatted = started.device.format(&mut image[..]);
-    say_line(b"plan", formatted.number);
-    play_lines(text, from, formatted.device, &mut image[..])
+    say_line(writer, b"plan", formatted.number)?;
+    play_lines(writer, text, from, formatted.device, &mut image[..])
 }
 
 // The plan that a line has; one without units if it has none.
@@ -341,30 +393,38 @@ fn plan_of(line: &[u8]) -> Plan {
 }
 
 // Plays the text that begins at an offset. Where the next one begins.
-fn play_text(text: &[u8], from: usize, image: &mut [u8]) -> usize
+fn play_text<W: io::Write>(
+    writer: &mut W,
+    text: &[u8],
+    from: usize,
+    image: &mut [u8],
+) -> io::Result<usize>
     requires { from < length text.now }
-    ensures { from < result }
+    ensures { IfOk result (λ next. from < next) }
 {
     let end = token::find(text, from, text.len(), b'\n');
     let plan = plan_of(&text[from..end]);
     let number = plan_number(plan);
     if number != 0 {
-        say_line(b"plan", number);
-        return text.len();
+        say_line(writer, b"plan", number)?;
+        return Ok(text.len());
     }
     let total = base_of(plan, plan.count);
     if image.len() < total {
-        return text.len();
+        return Ok(text.len());
     }
-    run(text, end + 1, plan, &mut image[..total])
+    run(writer, text, end + 1, plan, &mut image[..total])
 }
 
-fn main() {
-    let mut text = [0u8; 65536];
+// Reads the texts, at most 65,536 bytes together, and plays them.
+fn main(rt: HostRuntime) -> io::Result<()> {
+    let mut text = Vec::new(rt.alloc());
+    rt.reader().take(65536).read_to_end(&mut text)?;
+    let mut writer = rt.stdout();
     let mut image = [0u8; IMAGE_MOST];
-    let count = io::read_full(STDIN_FILENO, &mut text);
     let mut at: usize = 0;
-    while at < count {
-        at = play_text(&text[..count], at, &mut image);
+    while at < text.len() {
+        at = play_text(&mut writer, &text, at, &mut image)?;
     }
+    Ok(())
 }

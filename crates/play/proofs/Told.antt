@@ -12,6 +12,8 @@ use Rattle.store.specs.declared.Answer.{Answer}
 use Rattle.store.specs.Modelled.{modelled, Gives}
 use Rattle.model.specs.Calls.{Outcome}
 use Rattle.play.specs.declared.Played.{Played}
+use Rattle.std.specs.Prelude.{Result, IfOk}
+use Rattle.std.proofs.lemmas.Result.{IfOk-weaker}
 use Rattle.play.specs.Plays.{Buffer, place_for, word, is_plan, Plays}
 
 pub told : (form : Form) (o : Outcome) (a : Answer) (r : Played) (left before after w : List ℕ) (used : ℕ) → word form ≡ some w
@@ -27,3 +29,12 @@ told form o a r left before after w used ew ep g t =
       bad = t.1 ∙ sym ep;
       fits = t.2;
     }
+
+-- the same where `tell` may fail to write
+pub told_ok : {E : Type 0} (form : Form) (o : Outcome) (a : Answer) (r : Result Played E) (left before after w : List ℕ) (used : ℕ)
+    → word form ≡ some w → is_plan form ≡ false → Gives a left o
+    → IfOk r (λ played. (played.device ≡ a.device) × (played.bad ≡ false) × Buffer after played.used
+    × Wrote before (place_for (length before) used) (answer_line w a.number) after played.used)
+    → IfOk r (λ played. Plays form o played left before used after)
+told_ok form o a r left before after w used ew ep g t =
+    IfOk-weaker r _ _ (λ played h. told form o a played left before after w used ew ep g h) t

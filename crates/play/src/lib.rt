@@ -1,6 +1,9 @@
 // The bench program's work, document 01, 'Bench program': plays a script line by line on the save store, and prints.
-// All lines are printed into one lent buffer; `flush` alone writes it out. Its users are our own programs, which lend it room enough.
-ghost use Rattle.std.specs.Prelude.{◌≡◌, false, ◌+◌, ◌<◌, ◌≤◌, length};
+// All lines are printed into one lent buffer; `flush` alone writes it out, to the writer that is handed down to it. Its users are our
+// own programs, which lend it room enough.
+#![tactic(auto)]
+
+ghost use Rattle.std.specs.Prelude.{◌≡◌, false, ◌+◌, ◌<◌, ◌≤◌, length, IfOk};
 ghost use Rattle.model.specs.declared.Role.TheVariants.{Service};
 ghost use Rattle.model.specs.Refusals.{start_number};
 ghost use Rattle.model.specs.Calls.{begin, cut};
@@ -20,6 +23,7 @@ use printing::{put_answer, put_unit};
 use reader::Read;
 use rights::service_rights;
 use script::Form;
+use std::io;
 use store::{Answer, Device};
 
 // The device after a line, and how much of the buffer is used; `bad` if the line may not stand where it does.
@@ -31,56 +35,74 @@ struct Played {
 }
 
 // Writes out what the buffer holds.
-fn flush(out: &[u8], used: usize)
+fn flush<W: io::Write>(writer: &mut W, out: &[u8], used: usize) -> io::Result<()>
     requires { used ≤ length out.now }
 {
-    io::write_all(libc::STDOUT_FILENO, &out[..used]);
+    writer.write_all(&out[..used])
 }
 
 // The place for the next line: the buffer is written out before if it may not fit.
-fn room(out: &[u8], used: usize) -> usize
+fn room<W: io::Write>(writer: &mut W, out: &[u8], used: usize) -> io::Result<usize>
     requires { Buffer out.now used }
-    ensures { (result ≡ place_for (length out.now) used) × (result + line_most ≤ length out.now) }
+    ensures { IfOk result (λ place. (place ≡ place_for (length out.now) used)
+        × (place + line_most ≤ length out.now)) }
 {
     if out.len() - used < printing::LINE_MOST {
-        flush(out, used);
-        return 0;
+        flush(writer, out, used)?;
+        return Ok(0);
     }
-    used
+    Ok(used)
 }
 
 // Prints a word and a number.
-fn print(out: &mut [u8], used: usize, word: &[u8], number: usize) -> usize
+fn print<W: io::Write>(
+    writer: &mut W,
+    out: &mut [u8],
+    used: usize,
+    word: &[u8],
+    number: usize,
+) -> io::Result<usize>
     requires { Buffer out.old used × (length word.now ≤ 5) × (number < 100000) }
-    ensures { Wrote out.old (place_for (length out.old) used) (answer_line word.now number)
-        out.new result × Buffer out.new result }
+    ensures { IfOk result (λ next. Wrote out.old (place_for (length out.old) used)
+        (answer_line word.now number) out.new next × Buffer out.new next) }
 {
-    let at = room(out, used);
-    put_answer(out, at, word, number)
+    let at = room(writer, out, used)?;
+    Ok(put_answer(out, at, word, number))
 }
 
 // Prints that a line is bad.
-fn print_bad(out: &mut [u8], used: usize, number: usize) -> usize
+fn print_bad<W: io::Write>(
+    writer: &mut W,
+    out: &mut [u8],
+    used: usize,
+    number: usize,
+) -> io::Result<usize>
     requires { Buffer out.old used × (number < 100000) }
-    ensures { Wrote out.old (place_for (length out.old) used) (answer_line (ascii "bad") number)
-        out.new result × Buffer out.new result }
+    ensures { IfOk result (λ next. Wrote out.old (place_for (length out.old) used)
+        (answer_line (ascii "bad") number) out.new next × Buffer out.new next) }
 {
-    print(out, used, b"bad", number)
+    print(writer, out, used, b"bad", number)
 }
 
 // Prints a line a unit.
-fn show(out: &mut [u8], used: usize, plan: Plan, image: &[u8]) -> usize
+fn show<W: io::Write>(
+    writer: &mut W,
+    out: &mut [u8],
+    used: usize,
+    plan: Plan,
+    image: &[u8],
+) -> io::Result<usize>
     requires { Buffer out.old used × Held plan image.now }
-    ensures { Buffer out.new result }
+    ensures { IfOk result (λ next. Buffer out.new next) }
 {
     let mut place = used;
     let mut unit: u16 = 0;
     while unit < plan.count {
-        let at = room(out, place);
+        let at = room(writer, out, place)?;
         place = put_unit(out, at, plan, image, unit);
         unit = unit + 1;
     }
-    place
+    Ok(place)
 }
 
 // Start, and format over an image of exactly the units' length: the answer of the last call.
@@ -120,22 +142,31 @@ fn cut(device: Device, image: &mut [u8], line: &[u8], at: usize, count: usize) -
 }
 
 // Prints the form's word and the answer's number.
-fn tell(word: &[u8], answer: Answer, out: &mut [u8], used: usize) -> Played
+fn tell<W: io::Write>(
+    writer: &mut W,
+    word: &[u8],
+    answer: Answer,
+    out: &mut [u8],
+    used: usize,
+) -> io::Result<Played>
     requires { Buffer out.old used × (length word.now ≤ 5) }
-    ensures { (result.device ≡ answer.device) × (result.bad ≡ false) × Buffer out.new result.used
+    ensures { IfOk result (λ played. (played.device ≡ answer.device) × (played.bad ≡ false)
+        × Buffer out.new played.used
         × Wrote out.old (place_for (length out.old) used) (answer_line word.now answer.number)
-        out.new result.used }
+        out.new played.used) }
 {
     let device = answer.device;
-    Played {
+    let next = print(writer, out, used, word, answer.number as usize)?;
+    Ok(Played {
         device: device,
-        used: print(out, used, word, answer.number as usize),
+        used: next,
         bad: false,
-    }
+    })
 }
 
 // Plays a line after the first.
-fn play(
+fn play<W: io::Write>(
+    writer: &mut W,
     form: Form,
     line: &[u8],
     plan: Plan,
@@ -143,37 +174,45 @@ fn play(
     image: &mut [u8],
     out: &mut [u8],
     used: usize,
-) -> Played
+) -> io::Result<Played>
     requires { (form_of line.now ≡ Is form) × Held plan image.old × Buffer out.old used }
-    ensures { Plays form (plays form line.now (modelled device) image.old) result image.new
-        out.old used out.new }
+    ensures { IfOk result (λ played. Plays form (plays form line.now (modelled device) image.old) played image.new
+        out.old used out.new) }
 {
     match form {
         // "must be the first line and no other"
-        Form::Plan { .. } => Played {
+        Form::Plan { .. } => Ok(Played {
             device: device,
             used: used,
             bad: true,
-        },
+        }),
         Form::Write { unit, at, count } => tell(
+            writer,
             b"write",
             write(device, image, line, unit, at, count),
             out,
             used,
         ),
-        Form::Step(count) => tell(b"step", device.steps(image, count), out, used),
-        Form::Cut { at, count } => tell(b"cut", cut(device, image, line, at, count), out, used),
-        Form::Wake => tell(b"wake", device.wake(image), out, used),
-        Form::Show => Played {
+        Form::Step(count) => tell(writer, b"step", device.steps(image, count), out, used),
+        Form::Cut { at, count } => tell(
+            writer,
+            b"cut",
+            cut(device, image, line, at, count),
+            out,
+            used,
+        ),
+        Form::Wake => tell(writer, b"wake", device.wake(image), out, used),
+        Form::Show => Ok(Played {
             device: device,
-            used: show(out, used, plan, image),
+            used: show(writer, out, used, plan, image)?,
             bad: false,
-        },
+        }),
     }
 }
 
 // Plays the lines from an offset on, the second of the script and those after it.
-fn play_lines(
+fn play_lines<W: io::Write>(
+    writer: &mut W,
     text: &[u8],
     from: usize,
     plan: Plan,
@@ -181,10 +220,10 @@ fn play_lines(
     image: &mut [u8],
     out: &mut [u8],
     printed: usize,
-) -> usize
+) -> io::Result<usize>
     requires { (from ≤ length text.now + 1) × (length text.now ≤ 65536) × (0 < from)
         × Held plan image.old × Buffer out.old printed }
-    ensures { Buffer out.new result }
+    ensures { IfOk result (λ next. Buffer out.new next) }
 {
     let mut at = from;
     let mut number: usize = 1;
@@ -195,52 +234,82 @@ fn play_lines(
         let read = reader::read_line(text, at);
         // "Any line that isn't one of these forms prints `bad` and its decimal line number, and the run ends."
         let Read::Form { form, start, end } = read else {
-            return print_bad(out, used, number);
+            return print_bad(writer, out, used, number);
         };
-        let after = play(form, &text[start..end], plan, device, image, out, used);
+        let after = play(
+            writer,
+            form,
+            &text[start..end],
+            plan,
+            device,
+            image,
+            out,
+            used,
+        )?;
         if after.bad {
-            return print_bad(out, after.used, number);
+            return print_bad(writer, out, after.used, number);
         }
         device = after.device;
         used = after.used;
         at = end + 1;
     }
-    used
+    Ok(used)
 }
 
 // Plays a plan and, unless it is refused, the lines from an offset on.
-fn play_plan(text: &[u8], from: usize, plan: Plan, image: &mut [u8], out: &mut [u8]) -> usize
+fn play_plan<W: io::Write>(
+    writer: &mut W,
+    text: &[u8],
+    from: usize,
+    plan: Plan,
+    image: &mut [u8],
+    out: &mut [u8],
+) -> io::Result<usize>
     requires { (from ≤ length text.now + 1) × (length text.now ≤ 65536) × (0 < from)
         × (4224 ≤ length image.old) × Buffer out.old 0 }
-    ensures { Buffer out.new result }
+    ensures { IfOk result (λ next. Buffer out.new next) }
 {
     let answer = open(plan, image);
-    let used = print(out, 0, b"plan", answer.number as usize);
+    let used = print(writer, out, 0, b"plan", answer.number as usize)?;
     if answer.number != 0 {
-        return used;
+        return Ok(used);
     }
     let device = answer.device;
     let total = base_of(plan, plan.count);
-    play_lines(text, from, plan, device, &mut image[..total], out, used)
+    play_lines(
+        writer,
+        text,
+        from,
+        plan,
+        device,
+        &mut image[..total],
+        out,
+        used,
+    )
 }
 
 // Plays a script; its first line must be a plan.
-fn run(text: &[u8], image: &mut [u8], out: &mut [u8]) -> usize
+fn run<W: io::Write>(
+    writer: &mut W,
+    text: &[u8],
+    image: &mut [u8],
+    out: &mut [u8],
+) -> io::Result<usize>
     requires { (4224 ≤ length image.old) × Buffer out.old 0 }
-    ensures { Buffer out.new result }
+    ensures { IfOk result (λ next. Buffer out.new next) }
 {
     if 65536 < text.len() {
-        return print_bad(out, 0, 0);
+        return print_bad(writer, out, 0, 0);
     }
     if text.len() == 0 {
-        return 0;
+        return Ok(0);
     }
     let read = reader::read_line(text, 0);
     let Read::Form { form, start, end } = read else {
-        return print_bad(out, 0, 1);
+        return print_bad(writer, out, 0, 1);
     };
     let Form::Plan { at, count, page } = form else {
-        return print_bad(out, 0, 1);
+        return print_bad(writer, out, 0, 1);
     };
     let widths = script::widths_at(&text[start..end], at, count);
     let plan = Plan {
@@ -250,13 +319,18 @@ fn run(text: &[u8], image: &mut [u8], out: &mut [u8]) -> usize
         grouped: false,
         rights: service_rights(),
     };
-    play_plan(text, end + 1, plan, image, out)
+    play_plan(writer, text, end + 1, plan, image, out)
 }
 
 // Plays a script of any length, and writes out what the buffer still holds. The image has room for the largest plan.
-pub fn run_all(text: &[u8], image: &mut [u8], out: &mut [u8])
+pub fn run_all<W: io::Write>(
+    writer: &mut W,
+    text: &[u8],
+    image: &mut [u8],
+    out: &mut [u8],
+) -> io::Result<()>
     requires { (4224 ≤ length image.old) × Buffer out.old 0 }
 {
-    let used = run(text, image, out);
-    flush(out, used);
+    let used = run(writer, text, image, out)?;
+    flush(writer, out, used)
 }

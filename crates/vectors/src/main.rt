@@ -1,29 +1,29 @@
 // Plays each script that an argument names, and prints what the bench prints of it, one after the other. The expected output is that
 // of two independent simulators, and with pages that of a third, in simulator/.
+#![tactic(auto)]
 
-fn play_file(name: &[u8]) {
-    let file = os::open_read(name);
-    if file < 0 {
-        os::fail(name);
-        return;
-    }
-    let mut text = [0u8; 65537];
-    let count = io::read_full(file, &mut text);
-    libc::close(file);
+use std::fs::File;
+use std::io::Read;
+use std::{env, io};
+
+// A file that cannot be opened is named on standard error, and passed over.
+fn play_file(rt: &HostRuntime, name: &str) -> io::Result<()> {
+    let file = match File::open(rt, name) {
+        Ok(file) => file,
+        Err(error) => return eprintln!(rt; "{name}: {error}"),
+    };
+    let mut text = Vec::new(rt.alloc());
+    file.take(65537).read_to_end(&mut text)?;
     let mut image = [0u8; 4224];
     let mut out = [0u8; 32768];
-    play::run_all(&text[..count], &mut image, &mut out);
+    play::run_all(&mut rt.stdout(), &text, &mut image, &mut out)
 }
 
-fn main() {
-    let count = os::arg_count();
-    let mut i: usize = 1;
-    while i < count {
-        let mut name = [0u8; 64];
-        let length = os::arg(i, &mut name);
-        if length <= 64 {
-            play_file(&name[..length]);
+fn main(rt: HostRuntime) -> io::Result<()> {
+    for name in env::args(&rt)?.skip(1) {
+        if name.len() <= 64 {
+            play_file(&rt, name.as_str())?;
         }
-        i = i + 1;
     }
+    Ok(())
 }
