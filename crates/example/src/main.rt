@@ -1,9 +1,12 @@
 // How another crate uses the store: a rider's four bytes are saved, the supply dies in the middle of the second save, and the
 // console wakes, repairs and reads the old bytes back. Then a ride and its rider are saved together: the supply dies between the two,
 // and both come back new.
-use libc::STDOUT_FILENO;
+#![tactic(auto)]
+
 use model::{Plan, Role};
 use rights::service_rights;
+use std::io;
+use std::io::{BufWriter, Write};
 use store::Device;
 
 // A formatted device with "turn" saved.
@@ -34,15 +37,16 @@ fn second_save(device: Device, image: &mut [u8]) -> Device {
     repaired.device
 }
 
-fn ride(image: &mut [u8]) {
+fn ride<W: Write>(out: &mut W, image: &mut [u8]) -> io::Result<()> {
     let saved = first_save(&mut image[..]);
     let ready = second_save(saved, &mut image[..]);
-    io::write_all(STDOUT_FILENO, ready.read(&image[..], Role::Service, 0));
-    io::write_all(STDOUT_FILENO, b"\n");
+    out.write_all(ready.read(&image[..], Role::Service, 0))?;
+    out.write_all(b"\n")?;
     // 11, 3 and 5; the torn store doesn't count
     if ready.stores == 19 {
-        io::write_all(STDOUT_FILENO, b"19 stores\n");
+        out.write_all(b"19 stores\n")?;
     }
+    Ok(())
 }
 
 // Units of four bytes and of one, and a group record that holds both: a byte for the count, one for each unit number, the five bytes.
@@ -70,18 +74,20 @@ fn together(device: Device, image: &mut [u8]) -> Device {
     repaired.device
 }
 
-fn ride_and_rider(image: &mut [u8]) {
+fn ride_and_rider<W: Write>(out: &mut W, image: &mut [u8]) -> io::Result<()> {
     let formatted = grouped_device(&mut image[..]);
     let ready = together(formatted, &mut image[..]);
-    io::write_all(STDOUT_FILENO, ready.read(&image[..], Role::Service, 0));
-    io::write_all(STDOUT_FILENO, b" ");
-    io::write_all(STDOUT_FILENO, ready.read(&image[..], Role::Service, 1));
-    io::write_all(STDOUT_FILENO, b"\n");
+    out.write_all(ready.read(&image[..], Role::Service, 0))?;
+    out.write_all(b" ")?;
+    out.write_all(ready.read(&image[..], Role::Service, 1))?;
+    out.write_all(b"\n")
 }
 
-fn main() {
+fn main(rt: HostRuntime) -> io::Result<()> {
+    let mut out = BufWriter::new(rt.alloc(), io::writer(&rt))?;
     let mut image = [0u8; 9];
-    ride(&mut image);
+    ride(&mut out, &mut image)?;
     let mut larger = [0u8; 29];
-    ride_and_rider(&mut larger);
+    ride_and_rider(&mut out, &mut larger)?;
+    out.flush()
 }

@@ -1,18 +1,20 @@
 // A gym's console: unit 0 has the wheel turns, unit 1 the takings, unit 2 the limits. A rider sees turns and limits, and never the
 // takings; the gym sees all of it and sets the limits; service has every right. What each role's read, total and begin answer, of good
 // units, and again with the takings' and the limits' markers torn: a role that may not see a unit is not told so.
-use io::print_decimal;
-use libc::STDOUT_FILENO;
+#![tactic(auto)]
+
 use model::{NOTHING, Plan, Rights, Role, SEE, SEE_AND_WRITE};
+use std::io;
+use std::io::{BufWriter, Write};
 use store::Device;
 
-fn word(text: &[u8]) {
-    io::write_all(STDOUT_FILENO, text);
+fn word<W: Write>(out: &mut W, text: &[u8]) -> io::Result<()> {
+    out.write_all(text)
 }
 
-fn number(name: &[u8], n: u64) {
-    word(name);
-    print_decimal(STDOUT_FILENO, n);
+fn number<W: Write>(out: &mut W, name: &[u8], n: u64) -> io::Result<()> {
+    word(out, name)?;
+    write!(out, "{n}")
 }
 
 // A byte a unit. The bytes past the plan's units are not looked at.
@@ -54,40 +56,55 @@ fn opened(image: &mut [u8]) -> Device {
 }
 
 // The numbers of a read, of a total, with what it shows, and of a begin.
-fn ask(device: Device, image: &[u8], role: Role, unit: u16, payload: &[u8]) {
-    number(b" read ", device.read_number(image, role, unit) as u64);
+fn ask<W: Write>(
+    out: &mut W,
+    device: Device,
+    image: &[u8],
+    role: Role,
+    unit: u16,
+    payload: &[u8],
+) -> io::Result<()> {
+    number(out, b" read ", device.read_number(image, role, unit) as u64)?;
     let total = device.total(image, role, unit);
-    number(b", total ", total.number as u64);
-    number(b" shows ", total.amount);
+    number(out, b", total ", total.number as u64)?;
+    number(out, b" shows ", total.amount)?;
     let begun = device.begin(image, role, unit, payload);
-    number(b", begin ", begun.number as u64);
-    word(b"\n");
+    number(out, b", begin ", begun.number as u64)?;
+    word(out, b"\n")
 }
 
-fn ask_all(device: Device, image: &[u8], role: Role, name: &[u8]) {
-    word(name);
-    word(b" turns:  ");
-    ask(device, image, role, 0, b"01234567");
-    word(name);
-    word(b" takings:");
-    ask(device, image, role, 1, b"01234567");
-    word(name);
-    word(b" limits: ");
-    ask(device, image, role, 2, b"9");
+fn ask_all<W: Write>(
+    out: &mut W,
+    device: Device,
+    image: &[u8],
+    role: Role,
+    name: &[u8],
+) -> io::Result<()> {
+    word(out, name)?;
+    word(out, b" turns:  ")?;
+    ask(out, device, image, role, 0, b"01234567")?;
+    word(out, name)?;
+    word(out, b" takings:")?;
+    ask(out, device, image, role, 1, b"01234567")?;
+    word(out, name)?;
+    word(out, b" limits: ")?;
+    ask(out, device, image, role, 2, b"9")
 }
 
-fn ask_roles(device: Device, image: &[u8]) {
-    ask_all(device, image, Role::Rider, b"rider  ");
-    ask_all(device, image, Role::Gym, b"gym    ");
-    ask_all(device, image, Role::Service, b"service");
+fn ask_roles<W: Write>(out: &mut W, device: Device, image: &[u8]) -> io::Result<()> {
+    ask_all(out, device, image, Role::Rider, b"rider  ")?;
+    ask_all(out, device, image, Role::Gym, b"gym    ")?;
+    ask_all(out, device, image, Role::Service, b"service")
 }
 
-fn main() {
+fn main(rt: HostRuntime) -> io::Result<()> {
+    let mut out = BufWriter::new(rt.alloc(), io::writer(&rt))?;
     let mut image = [0u8; 37];
     let device = opened(&mut image);
-    ask_roles(device, &image);
-    word(b"torn:\n");
+    ask_roles(&mut out, device, &image)?;
+    word(&mut out, b"torn:\n")?;
     image[17] = 2;
     image[34] = 2;
-    ask_roles(device, &image);
+    ask_roles(&mut out, device, &image)?;
+    out.flush()
 }

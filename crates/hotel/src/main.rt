@@ -1,14 +1,16 @@
 // A hotel's bike: rides are paid for. Unit 0 has the turns, unit 1 the cents, unit 2 is the group record. Of each ride some stores are
 // made, then the power fails; the console wakes, repairs and shows both totals. Both are of the same rides, wherever the power failed.
-use io::print_decimal;
-use libc::STDOUT_FILENO;
+#![tactic(auto)]
+
 use model::{Plan, Role};
 use rights::service_rights;
+use std::io;
+use std::io::{BufWriter, Write};
 use store::Device;
 
-fn say(word: &[u8], number: u64) {
-    io::write_all(STDOUT_FILENO, word);
-    print_decimal(STDOUT_FILENO, number);
+fn say<W: Write>(out: &mut W, word: &[u8], number: u64) -> io::Result<()> {
+    out.write_all(word)?;
+    write!(out, "{number}")
 }
 
 fn formatted(image: &mut [u8]) -> Device {
@@ -25,12 +27,12 @@ fn formatted(image: &mut [u8]) -> Device {
 }
 
 // The totals that the console shows.
-fn show(device: Device, image: &[u8]) {
+fn show<W: Write>(out: &mut W, device: Device, image: &[u8]) -> io::Result<()> {
     let turns = device.total(image, Role::Service, 0);
     let cents = device.total(image, Role::Service, 1);
-    say(b": turns ", turns.amount);
-    say(b", cents ", cents.amount);
-    io::write_all(STDOUT_FILENO, b"\n");
+    say(out, b": turns ", turns.amount)?;
+    say(out, b", cents ", cents.amount)?;
+    out.write_all(b"\n")
 }
 
 // A paid ride of which so many stores are made before the power fails. The repair is over when a step is refused.
@@ -43,41 +45,49 @@ fn outage(device: Device, image: &mut [u8], turns: u64, stores: u16) -> Device {
     repaired.device
 }
 
-fn ride(device: Device, image: &mut [u8], turns: u64, stores: u16) -> Device {
-    say(b"ride of ", turns);
-    say(b", cut after ", stores as u64);
+fn ride<W: Write>(
+    out: &mut W,
+    device: Device,
+    image: &mut [u8],
+    turns: u64,
+    stores: u16,
+) -> io::Result<Device> {
+    say(out, b"ride of ", turns)?;
+    say(out, b", cut after ", stores as u64)?;
     let after = outage(device, &mut image[..], turns, stores);
-    show(after, &image[..]);
-    after
+    show(out, after, &image[..])?;
+    Ok(after)
 }
 
 // The record's write takes 41 stores and passes at the 21st, each member's takes 19, and the record's zeros 41 again.
-fn first_rides(device: Device, image: &mut [u8]) -> Device {
-    let saved = ride(device, &mut image[..], 500, 120);
-    let lost = ride(saved, &mut image[..], 501, 20);
-    let passed = ride(lost, &mut image[..], 501, 21);
-    ride(passed, &mut image[..], 0, 41)
+fn first_rides<W: Write>(out: &mut W, device: Device, image: &mut [u8]) -> io::Result<Device> {
+    let saved = ride(out, device, &mut image[..], 500, 120)?;
+    let lost = ride(out, saved, &mut image[..], 501, 20)?;
+    let passed = ride(out, lost, &mut image[..], 501, 21)?;
+    ride(out, passed, &mut image[..], 0, 41)
 }
 
-fn more_rides(device: Device, image: &mut [u8]) -> Device {
-    let first = ride(device, &mut image[..], 62000, 50);
-    let second = ride(first, &mut image[..], 62001, 70);
-    ride(second, &mut image[..], 1, 119)
+fn more_rides<W: Write>(out: &mut W, device: Device, image: &mut [u8]) -> io::Result<Device> {
+    let first = ride(out, device, &mut image[..], 62000, 50)?;
+    let second = ride(out, first, &mut image[..], 62001, 70)?;
+    ride(out, second, &mut image[..], 1, 119)
 }
 
 // As many turns as 64 bits hold, on top of those that are there.
-fn too_long(device: Device, image: &[u8]) {
+fn too_long<W: Write>(out: &mut W, device: Device, image: &[u8]) -> io::Result<()> {
     let turns = 18446744073709551615u64;
     let begun = device.paid_ride(image, turns);
-    say(b"ride of ", turns);
-    say(b": refused ", begun.number as u64);
-    io::write_all(STDOUT_FILENO, b"\n");
+    say(out, b"ride of ", turns)?;
+    say(out, b": refused ", begun.number as u64)?;
+    out.write_all(b"\n")
 }
 
-fn main() {
+fn main(rt: HostRuntime) -> io::Result<()> {
+    let mut out = BufWriter::new(rt.alloc(), io::writer(&rt))?;
     let mut image = [0u8; 73];
     let device = formatted(&mut image);
-    let halfway = first_rides(device, &mut image);
-    let last = more_rides(halfway, &mut image);
-    too_long(last, &image);
+    let halfway = first_rides(&mut out, device, &mut image)?;
+    let last = more_rides(&mut out, halfway, &mut image)?;
+    too_long(&mut out, last, &image)?;
+    out.flush()
 }

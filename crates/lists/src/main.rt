@@ -6,78 +6,73 @@
 //   and the calls, as crates/recovery/specs/Encoding.antt has them; but kinds 16, 17 and 18 are reads, by service, a rider and the gym,
 //   of which the number and copy A are printed.
 // The lists of this crate are random ones (simulator/lists.py), and the expected output is a simulator's, by other hands.
+#![tactic(auto)]
+
 ghost use Rattle.std.specs.Prelude.{◌≡◌, ◌≤◌, length};
 
-use io::print_decimal;
-use libc::{STDIN_FILENO, STDOUT_FILENO};
 use model::{Direction, Phase, Plan, Rights, Role};
 use replay::{call, number_at};
+use std::io;
+use std::io::{BufWriter, Read, Write};
 use store::Device;
 
-fn word(text: &[u8]) {
-    io::write_all(STDOUT_FILENO, text);
+fn word<W: Write>(out: &mut W, text: &[u8]) -> io::Result<()> {
+    out.write_all(text)
 }
 
-fn number(n: u32) {
-    word(b" ");
-    print_decimal(STDOUT_FILENO, n as u64);
+fn number<W: Write>(out: &mut W, n: u32) -> io::Result<()> {
+    write!(out, " {n}")
 }
 
-fn kind_word(kind: u8) {
+fn kind_word<W: Write>(out: &mut W, kind: u8) -> io::Result<()> {
     if (kind == 1) | (kind == 8) | (kind == 9) {
-        word(b"begin");
-        return;
+        return word(out, b"begin");
     }
     if kind == 2 {
-        word(b"cut");
-        return;
+        return word(out, b"cut");
     }
     if kind == 3 {
-        word(b"wake");
-        return;
+        return word(out, b"wake");
     }
     if kind == 4 {
-        word(b"ride");
-        return;
+        return word(out, b"ride");
     }
     if kind == 5 {
-        word(b"group");
-        return;
+        return word(out, b"group");
     }
     if kind == 10 {
-        word(b"paid");
-        return;
+        return word(out, b"paid");
     }
-    word(b"step");
+    word(out, b"step")
 }
 
-fn way(direction: Direction) {
+fn way<W: Write>(out: &mut W, direction: Direction) -> io::Result<()> {
     match direction {
-        Direction::AToB => word(b" AToB"),
-        Direction::BToA => word(b" BToA"),
+        Direction::AToB => word(out, b" AToB"),
+        Direction::BToA => word(out, b" BToA"),
     }
 }
 
-fn job(name: &[u8], at: u16, made: u16) {
-    word(name);
-    number(at as u32);
-    number(made as u32);
+fn job<W: Write>(out: &mut W, name: &[u8], at: u16, made: u16) -> io::Result<()> {
+    word(out, name)?;
+    number(out, at as u32)?;
+    number(out, made as u32)
 }
 
-fn phase_words(phase: Phase) {
+fn phase_words<W: Write>(out: &mut W, phase: Phase) -> io::Result<()> {
     match phase {
-        Phase::Cold => word(b" Cold"),
-        Phase::Ready => word(b" Ready"),
-        Phase::Writing { unit, made } => job(b" Writing", unit, made),
+        Phase::Cold => word(out, b" Cold"),
+        Phase::Ready => word(out, b" Ready"),
+        Phase::Writing { unit, made } => job(out, b" Writing", unit, made),
         Phase::Recovering {
             unit,
             made,
             direction,
         } => {
-            job(b" Recovering", unit, made);
-            way(direction);
+            job(out, b" Recovering", unit, made)?;
+            way(out, direction)
         }
-        Phase::Grouping { write, made } => job(b" Grouping", write, made),
+        Phase::Grouping { write, made } => job(out, b" Grouping", write, made),
     }
 }
 
@@ -88,26 +83,32 @@ fn digit(n: u8) -> u8
 }
 
 // Bytes, each after a space, to the end of a line.
-fn rest_of_line(bytes: &[u8]) {
+fn rest_of_line<W: Write>(out: &mut W, bytes: &[u8]) -> io::Result<()> {
     let mut at: usize = 0;
     while at < bytes.len() {
         let byte = bytes[at];
-        word(&[b' ', digit(byte / 16 % 16), digit(byte % 16)]);
+        word(out, &[b' ', digit(byte / 16 % 16), digit(byte % 16)])?;
         at = at + 1;
     }
-    word(b"\n");
+    word(out, b"\n")
 }
 
 // A line of bytes.
-fn bytes_line(name: &[u8], bytes: &[u8]) {
-    word(name);
-    rest_of_line(bytes);
+fn bytes_line<W: Write>(out: &mut W, name: &[u8], bytes: &[u8]) -> io::Result<()> {
+    word(out, name)?;
+    rest_of_line(out, bytes)
 }
 
-fn read_line(device: Device, image: &[u8], role: Role, unit: u16) {
-    word(b"read");
-    number(device.read_number(image, role, unit) as u32);
-    rest_of_line(device.read(image, role, unit));
+fn read_line<W: Write>(
+    out: &mut W,
+    device: Device,
+    image: &[u8],
+    role: Role,
+    unit: u16,
+) -> io::Result<()> {
+    word(out, b"read")?;
+    number(out, device.read_number(image, role, unit) as u32)?;
+    rest_of_line(out, device.read(image, role, unit))
 }
 
 fn reader_of(kind: u8) -> Role {
@@ -121,28 +122,47 @@ fn reader_of(kind: u8) -> Role {
 }
 
 // One call, and what it came to.
-fn called(device: Device, image: &mut [u8], kind: u8, unit: u16, own: &[u8]) -> Device {
+fn called<W: Write>(
+    out: &mut W,
+    device: Device,
+    image: &mut [u8],
+    kind: u8,
+    unit: u16,
+    own: &[u8],
+) -> io::Result<Device> {
     let after = call(device, image, kind, unit, own);
     let next = after.device;
-    kind_word(kind);
-    number(after.number as u32);
+    kind_word(out, kind)?;
+    number(out, after.number as u32)?;
     let phase = next.phase;
-    phase_words(phase);
-    number(next.stores);
-    word(b"\n");
-    next
+    phase_words(out, phase)?;
+    number(out, next.stores)?;
+    word(out, b"\n")?;
+    Ok(next)
 }
 
 // A call, or a read, which leaves the device as it is.
-fn played(device: Device, image: &mut [u8], kind: u8, unit: u16, own: &[u8]) -> Device {
+fn played<W: Write>(
+    out: &mut W,
+    device: Device,
+    image: &mut [u8],
+    kind: u8,
+    unit: u16,
+    own: &[u8],
+) -> io::Result<Device> {
     if (16 <= kind) & (kind <= 18) {
-        read_line(device, &image[..], reader_of(kind), unit);
-        return device;
+        read_line(out, device, &image[..], reader_of(kind), unit)?;
+        return Ok(device);
     }
-    called(device, &mut image[..], kind, unit, own)
+    called(out, device, &mut image[..], kind, unit, own)
 }
 
-fn play(first: Device, image: &mut [u8], calls: &[u8]) -> Device {
+fn play<W: Write>(
+    out: &mut W,
+    first: Device,
+    image: &mut [u8],
+    calls: &[u8],
+) -> io::Result<Device> {
     let mut device = first;
     let mut at: usize = 0;
     while 5 <= calls.len() - at {
@@ -150,13 +170,20 @@ fn play(first: Device, image: &mut [u8], calls: &[u8]) -> Device {
         let size = number_at(calls, at + 3) as usize;
         let from = at + 5;
         if calls.len() - from < size {
-            return device;
+            return Ok(device);
         }
         let end = from + size;
-        device = played(device, &mut image[..], calls[at], unit, &calls[from..end]);
+        device = played(
+            out,
+            device,
+            &mut image[..],
+            calls[at],
+            unit,
+            &calls[from..end],
+        )?;
         at = end;
     }
-    device
+    Ok(device)
 }
 
 fn wide(byte: u8) -> u16 {
@@ -204,48 +231,51 @@ fn plan_of(head: &[u8]) -> Plan
     }
 }
 
-fn list(head: &[u8], image: &mut [u8], calls: &[u8])
+fn list<W: Write>(out: &mut W, head: &[u8], image: &mut [u8], calls: &[u8]) -> io::Result<()>
     requires { length head.now ≡ 47 }
 {
     let started = Device::start(plan_of(head));
-    word(b"start");
-    number(started.number as u32);
+    word(out, b"start")?;
+    number(out, started.number as u32)?;
     let formatted = started.device.format(&mut image[..]);
-    word(b"\nformat");
-    number(formatted.number as u32);
-    word(b"\n");
-    let last = play(formatted.device, &mut image[..], calls);
-    bytes_line(b"image", &image[..]);
+    word(out, b"\nformat")?;
+    number(out, formatted.number as u32)?;
+    word(out, b"\n")?;
+    let last = play(out, formatted.device, &mut image[..], calls)?;
+    bytes_line(out, b"image", &image[..])?;
     let payload = last.payload;
-    bytes_line(b"payload", &payload);
+    bytes_line(out, b"payload", &payload)
 }
 
-fn over_image(head: &[u8], calls: &[u8])
+fn over_image<W: Write>(out: &mut W, head: &[u8], calls: &[u8]) -> io::Result<()>
     requires { length head.now ≡ 47 }
 {
     let mut image = [0x77u8; 65536];
     let size = number_at(head, 43) as usize;
-    list(head, &mut image[..size], calls);
+    list(out, head, &mut image[..size], calls)
 }
 
 // The lists in a text, one after the other.
-fn lists(text: &[u8]) {
+fn lists<W: Write>(out: &mut W, text: &[u8]) -> io::Result<()> {
     let count = text.len();
     let mut at: usize = 0;
     while 47 <= count - at {
         let calls = at + 47;
         let size = number_at(text, at + 45) as usize;
         if count - calls < size {
-            return;
+            return Ok(());
         }
         let end = calls + size;
-        over_image(&text[at..calls], &text[calls..end]);
+        over_image(out, &text[at..calls], &text[calls..end])?;
         at = end;
     }
+    Ok(())
 }
 
-fn main() {
-    let mut text = [0u8; 65536];
-    let count = io::read_full(STDIN_FILENO, &mut text);
-    lists(&text[..count]);
+fn main(rt: HostRuntime) -> io::Result<()> {
+    let mut text = Vec::new(rt.alloc());
+    rt.reader().take(65536).read_to_end(&mut text)?;
+    let mut out = BufWriter::new(rt.alloc(), io::writer(&rt))?;
+    lists(&mut out, text.as_slice())?;
+    out.flush()
 }

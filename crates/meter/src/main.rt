@@ -2,13 +2,16 @@
 // Standard input has ten bytes: units, width (low byte first), 0 for step or 1 for pass, the unit, rounds and count (low bytes first),
 // and the page.
 // Or, with 2 for drive or 3 for drive over a lent table: drives at a level (the unit's byte) and each rate below count.
+#![tactic(auto)]
+
 ghost use Rattle.std.specs.Prelude.{◌≡◌, length};
 
 use brake::{drive, drive_over};
 use console::passed;
-use libc::STDOUT_FILENO;
 use model::{Plan, Role};
 use rights::service_rights;
+use std::io;
+use std::io::{Read, Write};
 use store::Device;
 
 fn number_of(low: u8, high: u8) -> u16 {
@@ -58,7 +61,12 @@ fn rounds_of(
     }
 }
 
-fn play(asked: [u8; 10], image: &mut [u8], payload: &[u8]) {
+fn play<W: Write>(
+    out: &mut W,
+    asked: [u8; 10],
+    image: &mut [u8],
+    payload: &[u8],
+) -> io::Result<()> {
     let width = number_of(asked[1], asked[2]);
     let plan = Plan {
         count: number_of(asked[0], 0),
@@ -74,7 +82,7 @@ fn play(asked: [u8; 10], image: &mut [u8], payload: &[u8]) {
     let first: usize = 0;
     let size = width as usize;
     if payload.len() < size {
-        return;
+        return Ok(());
     }
     rounds_of(
         device,
@@ -85,8 +93,8 @@ fn play(asked: [u8; 10], image: &mut [u8], payload: &[u8]) {
         number_of(asked[5], asked[6]),
         number_of(asked[7], asked[8]),
     );
-    io::write_all(STDOUT_FILENO, device.read(&image[..], Role::Service, unit));
-    io::write_all(STDOUT_FILENO, b"\n");
+    out.write_all(device.read(&image[..], Role::Service, unit))?;
+    out.write_all(b"\n")
 }
 
 // One drive, by the constant table or over a lent one.
@@ -110,25 +118,25 @@ fn drives_of(table: &[u16], over: bool, level: u16, count: u16) -> u16 {
     mixed
 }
 
-fn drive_all(asked: [u8; 10]) {
+fn drive_all<W: Write>(out: &mut W, asked: [u8; 10]) -> io::Result<()> {
     let table = [7u16; 1280];
     let level = number_of(asked[4], 0);
     let count = number_of(asked[7], asked[8]);
     let mixed = drives_of(&table, asked[3] == 3, level, count);
-    io::write_all(STDOUT_FILENO, &[(mixed % 256) as u8]);
+    out.write_all(&[(mixed % 256) as u8])
 }
 
-fn main() {
-    let mut asked = [0u8; 10];
-    let got = io::read_full(0, &mut asked);
-    if got != 10 {
-        return;
-    }
+fn main(rt: HostRuntime) -> io::Result<()> {
+    let mut given = Vec::new(rt.alloc());
+    rt.reader().take(10).read_to_end(&mut given)?;
+    let Ok(asked) = <[u8; 10]>::try_from(given.as_slice()) else {
+        return Ok(());
+    };
+    let mut out = io::writer(&rt);
     if 1 < asked[3] {
-        drive_all(asked);
-        return;
+        return drive_all(&mut out, asked);
     }
     let mut image = [0u8; 4224];
     let payload = [120u8; 256];
-    play(asked, &mut image, &payload);
+    play(&mut out, asked, &mut image, &payload)
 }

@@ -1,33 +1,39 @@
 // Wheel turns over power cuts. Three rides are begun: one is saved, one is cut off at the last store before it passes, and one at the
 // first after it. The console shows the total after each; and what refuses a ride, or a total.
-use io::print_decimal;
-use libc::STDOUT_FILENO;
+#![tactic(auto)]
+
 use model::{Plan, Role};
 use rights::service_rights;
+use std::io;
+use std::io::{BufWriter, Write};
 use store::Device;
 
-fn say(word: &[u8], number: u64) {
-    io::write_all(STDOUT_FILENO, word);
-    print_decimal(STDOUT_FILENO, number);
-    io::write_all(STDOUT_FILENO, b"\n");
+fn say<W: Write>(out: &mut W, word: &[u8], number: u64) -> io::Result<()> {
+    out.write_all(word)?;
+    writeln!(out, "{number}")
 }
 
 // The total that a unit holds, or why there is none to show.
-fn show(device: Device, image: &[u8], unit: u16) {
+fn show<W: Write>(out: &mut W, device: Device, image: &[u8], unit: u16) -> io::Result<()> {
     let total = device.total(image, Role::Service, unit);
     if total.number != 0 {
-        say(b"no total: ", total.number as u64);
-        return;
+        return say(out, b"no total: ", total.number as u64);
     }
-    say(b"turns ", total.amount);
+    say(out, b"turns ", total.amount)
 }
 
 // A ride of which so many stores are made.
-fn ride(device: Device, image: &mut [u8], turns: u64, stores: u16) -> Device {
+fn ride<W: Write>(
+    out: &mut W,
+    device: Device,
+    image: &mut [u8],
+    turns: u64,
+    stores: u16,
+) -> io::Result<Device> {
     let begun = device.ride(&image[..], turns);
-    say(b"ride ", begun.number as u64);
+    say(out, b"ride ", begun.number as u64)?;
     let saved = begun.device.steps(&mut image[..], stores);
-    saved.device
+    Ok(saved.device)
 }
 
 // A power cut, and the repair, which for unit 0 takes nine steps.
@@ -51,17 +57,22 @@ fn formatted(image: &mut [u8]) -> Device {
     ready.device
 }
 
-fn main() {
+fn main(rt: HostRuntime) -> io::Result<()> {
+    let mut out = BufWriter::new(rt.alloc(), io::writer(&rt))?;
     let mut image = [0u8; 20];
-    let first = ride(formatted(&mut image), &mut image, 70000, 19);
-    show(first, &image, 0);
-    let second = outage(ride(first, &mut image, 500, 9), &mut image);
-    show(second, &image, 0);
-    let third = outage(ride(second, &mut image, 500, 10), &mut image);
-    show(third, &image, 0);
+    let ready = formatted(&mut image);
+    let first = ride(&mut out, ready, &mut image, 70000, 19)?;
+    show(&mut out, first, &image, 0)?;
+    let before = ride(&mut out, first, &mut image, 500, 9)?;
+    let second = outage(before, &mut image);
+    show(&mut out, second, &image, 0)?;
+    let after = ride(&mut out, second, &mut image, 500, 10)?;
+    let third = outage(after, &mut image);
+    show(&mut out, third, &image, 0)?;
     // as many as 64 bits hold, and then one more; unit 1 is no total
-    let full = ride(third, &mut image, 18446744073709481115, 19);
-    show(full, &image, 0);
-    let refused = ride(full, &mut image, 1, 0);
-    show(refused, &image, 1);
+    let full = ride(&mut out, third, &mut image, 18446744073709481115, 19)?;
+    show(&mut out, full, &image, 0)?;
+    let refused = ride(&mut out, full, &mut image, 1, 0)?;
+    show(&mut out, refused, &image, 1)?;
+    out.flush()
 }

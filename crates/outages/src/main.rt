@@ -10,13 +10,15 @@
 // changed, or a record that is left. A line for each page size; and, with pages of one byte, the same for cuts while the members are
 // written again: after the record was complete; after it had just passed, so that it is cleaned up first; after a record that did not
 // pass; and after a cut in the middle of such a rewriting. These eight lines are a simulator's output, by other hands.
+#![tactic(auto)]
+
 ghost use Rattle.std.specs.Prelude.{◌+◌, ◌*◌, ◌≤◌};
 
-use check::same;
-use libc::STDOUT_FILENO;
 use model::{Inspection, Plan, Role};
 use replay::outage;
 use rights::service_rights;
+use std::io;
+use std::io::Write;
 use store::Device;
 
 // What comes back of a save after the calls and a cut that leaves m in every byte of the page; x would be neither.
@@ -35,10 +37,10 @@ fn save_back(page: u16, calls: &[u8], m: u8) -> u8
     let size = page as usize;
     let repaired = outage(plan, &mut image, calls, &torn[0..size]);
     let saved = repaired.device.read(&image, Role::Service, 0);
-    if same(saved, b"old") {
+    if saved == b"old".as_slice() {
         return b'o';
     }
-    if same(saved, b"new") {
+    if saved == b"new".as_slice() {
         return b'n';
     }
     b'x'
@@ -46,16 +48,16 @@ fn save_back(page: u16, calls: &[u8], m: u8) -> u8
 
 // Whether the three units have these bytes, and the record zeros.
 fn holds(device: Device, image: &[u8], first: &[u8], second: &[u8]) -> bool {
-    if !same(device.read(image, Role::Service, 0), first) {
+    if device.read(image, Role::Service, 0) != first {
         return false;
     }
-    if !same(device.read(image, Role::Service, 1), second) {
+    if device.read(image, Role::Service, 1) != second {
         return false;
     }
-    if !same(device.read(image, Role::Service, 2), &[4, 5, 6]) {
+    if device.read(image, Role::Service, 2) != [4, 5, 6].as_slice() {
         return false;
     }
-    same(device.read(image, Role::Service, 3), &[0, 0, 0, 0, 0, 0])
+    device.read(image, Role::Service, 3) == [0, 0, 0, 0, 0, 0].as_slice()
 }
 
 fn all_ok(device: Device, image: &[u8]) -> bool {
@@ -126,14 +128,21 @@ fn letter(group: bool, page: u16, calls: &[u8]) -> u8
 }
 
 // A letter for each place of a cut: after the first `start` bytes, and after each step that follows them.
-fn row(group: bool, page: u16, calls: [u8; 440], start: usize, steps: usize)
+fn row<W: Write>(
+    out: &mut W,
+    group: bool,
+    page: u16,
+    calls: [u8; 440],
+    start: usize,
+    steps: usize,
+) -> io::Result<()>
     requires { (page ≤ 16) × (start + 5 * steps ≤ 440) }
 {
     for made in 0..=steps {
         let end = start + 5 * made;
-        io::write_all(STDOUT_FILENO, &[letter(group, page, &calls[0..end])]);
+        out.write_all(&[letter(group, page, &calls[0..end])])?;
     }
-    io::write_all(STDOUT_FILENO, b"\n");
+    out.write_all(b"\n")
 }
 
 // A begin of "old", its nine steps and a begin of "new", which are 61 bytes, and then steps: zeros are steps.
@@ -191,29 +200,30 @@ fn cut_at(calls: [u8; 440], at: usize, m: u8) -> [u8; 440]
     more
 }
 
-fn in_groups() {
-    row(true, 1, groups(), 136, 42);
-    row(true, 4, groups(), 136, 42);
-    row(true, 8, groups(), 136, 42);
-    row(true, 16, groups(), 136, 42);
+fn in_groups<W: Write>(out: &mut W) -> io::Result<()> {
+    row(out, true, 1, groups(), 136, 42)?;
+    row(out, true, 4, groups(), 136, 42)?;
+    row(out, true, 8, groups(), 136, 42)?;
+    row(out, true, 16, groups(), 136, 42)?;
     // the record complete: 15 steps
     let stands = cut_at(groups(), 211, 0x5a);
-    row(true, 1, stands, 222, 27);
+    row(out, true, 1, stands, 222, 27)?;
     // passed: 8 steps
-    row(true, 1, cut_at(groups(), 176, 0x5a), 187, 34);
+    row(out, true, 1, cut_at(groups(), 176, 0x5a), 187, 34)?;
     // not passed: 7 steps
-    row(true, 1, cut_at(groups(), 171, 0), 182, 7);
+    row(out, true, 1, cut_at(groups(), 171, 0), 182, 7)?;
     // cut again after 10 steps of the rewriting
-    row(true, 1, cut_at(stands, 272, 0x5a), 283, 30);
+    row(out, true, 1, cut_at(stands, 272, 0x5a), 283, 30)
 }
 
-fn main() {
-    row(false, 1, saves(), 61, 9);
-    row(false, 4, saves(), 61, 9);
-    row(false, 8, saves(), 61, 9);
-    row(false, 16, saves(), 61, 9);
+fn main(rt: HostRuntime) -> io::Result<()> {
+    let mut out = io::writer(&rt);
+    row(&mut out, false, 1, saves(), 61, 9)?;
+    row(&mut out, false, 4, saves(), 61, 9)?;
+    row(&mut out, false, 8, saves(), 61, 9)?;
+    row(&mut out, false, 16, saves(), 61, 9)?;
     // cut in copy A, after two stores, and in copy B, after six
-    row(false, 1, cut_at(saves(), 71, 0x5a), 82, 4);
-    row(false, 1, cut_at(saves(), 91, 0x5a), 102, 4);
-    in_groups();
+    row(&mut out, false, 1, cut_at(saves(), 71, 0x5a), 82, 4)?;
+    row(&mut out, false, 1, cut_at(saves(), 91, 0x5a), 102, 4)?;
+    in_groups(&mut out)
 }
