@@ -4,8 +4,8 @@
 
 use brake::drive_over;
 use curve::load;
+use input::read_full;
 use std::fs::File;
-use std::io::Read;
 use std::{env, io};
 
 fn say<W: io::Write>(writer: &mut W, word: &[u8], number: usize) -> io::Result<()> {
@@ -55,15 +55,15 @@ fn say_path<W: io::Write>(writer: &mut W, path: &str) -> io::Result<()> {
 // Twenty lines of the form have fewer than 8,000 bytes, so that what is cut off of a text of more than 70,000 changes nothing.
 // A file that cannot be opened is named on standard error, and passed over.
 fn load_file(rt: &HostRuntime, path: &str) -> io::Result<()> {
-    let file = match File::open(rt, path) {
+    let mut file = match File::open(rt, path) {
         Ok(file) => file,
         Err(error) => return eprintln!(rt; "{path}: {error}"),
     };
     let mut writer = rt.stdout();
     say_path(&mut writer, path)?;
-    let mut text = Vec::new(rt.alloc());
-    file.take(70000).read_to_end(&mut text)?;
-    load_text(&mut writer, &text)
+    let mut text = [0u8; 70000];
+    let count = read_full(&mut file, &mut text)?;
+    load_text(&mut writer, &text[..count])
 }
 
 // Prints the number of a load that is refused before the text is looked at.

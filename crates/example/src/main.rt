@@ -6,7 +6,7 @@
 use model::{Plan, Role};
 use rights::service_rights;
 use std::io;
-use std::io::{BufWriter, Write};
+use std::io::Write;
 use store::Device;
 
 // A formatted device with "turn" saved.
@@ -84,10 +84,9 @@ fn ride_and_rider<W: Write>(out: &mut W, image: &mut [u8]) -> io::Result<()> {
 }
 
 fn main(rt: HostRuntime) -> io::Result<()> {
-    let mut out = BufWriter::new(rt.alloc(), io::writer(&rt))?;
+    let mut out = io::writer(&rt);
     let mut image = [0u8; 9];
     ride(&mut out, &mut image)?;
     let mut larger = [0u8; 29];
-    ride_and_rider(&mut out, &mut larger)?;
-    out.flush()
+    ride_and_rider(&mut out, &mut larger)
 }

@@ -5,7 +5,7 @@
 
 use model::{NOTHING, Plan, Rights, Role, SEE, SEE_AND_WRITE};
 use std::io;
-use std::io::{BufWriter, Write};
+use std::io::Write;
 use store::Device;
 
 fn word<W: Write>(out: &mut W, text: &[u8]) -> io::Result<()> {
@@ -98,13 +98,12 @@ fn ask_roles<W: Write>(out: &mut W, device: Device, image: &[u8]) -> io::Result<
 }
 
 fn main(rt: HostRuntime) -> io::Result<()> {
-    let mut out = BufWriter::new(rt.alloc(), io::writer(&rt))?;
+    let mut out = io::writer(&rt);
     let mut image = [0u8; 37];
     let device = opened(&mut image);
     ask_roles(&mut out, device, &image)?;
     word(&mut out, b"torn:\n")?;
     image[17] = 2;
     image[34] = 2;
-    ask_roles(&mut out, device, &image)?;
-    out.flush()
+    ask_roles(&mut out, device, &image)
 }

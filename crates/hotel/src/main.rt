@@ -5,7 +5,7 @@
 use model::{Plan, Role};
 use rights::service_rights;
 use std::io;
-use std::io::{BufWriter, Write};
+use std::io::Write;
 use store::Device;
 
 fn say<W: Write>(out: &mut W, word: &[u8], number: u64) -> io::Result<()> {
@@ -83,11 +83,10 @@ fn too_long<W: Write>(out: &mut W, device: Device, image: &[u8]) -> io::Result<(
 }
 
 fn main(rt: HostRuntime) -> io::Result<()> {
-    let mut out = BufWriter::new(rt.alloc(), io::writer(&rt))?;
+    let mut out = io::writer(&rt);
     let mut image = [0u8; 73];
     let device = formatted(&mut image);
     let halfway = first_rides(&mut out, device, &mut image)?;
     let last = more_rides(&mut out, halfway, &mut image)?;
-    too_long(&mut out, last, &image)?;
-    out.flush()
+    too_long(&mut out, last, &image)
 }

@@ -10,10 +10,11 @@
 
 ghost use Rattle.std.specs.Prelude.{◌≡◌, ◌≤◌, length};
 
+use input::read_full;
 use model::{Direction, Phase, Plan, Rights, Role};
 use replay::{call, number_at};
 use std::io;
-use std::io::{BufWriter, Read, Write};
+use std::io::Write;
 use store::Device;
 
 fn word<W: Write>(out: &mut W, text: &[u8]) -> io::Result<()> {
@@ -273,9 +274,7 @@ fn lists<W: Write>(out: &mut W, text: &[u8]) -> io::Result<()> {
 }
 
 fn main(rt: HostRuntime) -> io::Result<()> {
-    let mut text = Vec::new(rt.alloc());
-    rt.reader().take(65536).read_to_end(&mut text)?;
-    let mut out = BufWriter::new(rt.alloc(), io::writer(&rt))?;
-    lists(&mut out, text.as_slice())?;
-    out.flush()
+    let mut text = [0u8; 65536];
+    let count = read_full(&mut rt.reader(), &mut text)?;
+    lists(&mut io::writer(&rt), &text[..count])
 }

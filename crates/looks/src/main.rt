@@ -9,6 +9,7 @@ ghost use Rattle.model.specs.Layout.{total};
 ghost use Rattle.model.specs.Refusals.{start_number};
 
 use brake::drive;
+use input::read_full;
 use layout::base_of;
 use lookup::plan_number;
 use model::{Inspection, Plan, Role};
@@ -16,7 +17,6 @@ use printing::put_unit;
 use rights::service_rights;
 use script::{Form, Line};
 use std::io;
-use std::io::Read;
 use store::{Answer, Device};
 use token::LOST;
 
@@ -418,13 +418,13 @@ fn play_text<W: io::Write>(
 
 // Reads the texts, at most 65,536 bytes together, and plays them.
 fn main(rt: HostRuntime) -> io::Result<()> {
-    let mut text = Vec::new(rt.alloc());
-    rt.reader().take(65536).read_to_end(&mut text)?;
+    let mut text = [0u8; 65536];
+    let count = read_full(&mut rt.reader(), &mut text)?;
     let mut writer = rt.stdout();
     let mut image = [0u8; IMAGE_MOST];
     let mut at: usize = 0;
-    while at < text.len() {
-        at = play_text(&mut writer, &text, at, &mut image)?;
+    while at < count {
+        at = play_text(&mut writer, &text[..count], at, &mut image)?;
     }
     Ok(())
 }

@@ -8,10 +8,11 @@ ghost use Rattle.std.specs.Prelude.{◌≡◌, length};
 
 use brake::{drive, drive_over};
 use console::passed;
+use input::read_full;
 use model::{Plan, Role};
 use rights::service_rights;
 use std::io;
-use std::io::{Read, Write};
+use std::io::Write;
 use store::Device;
 
 fn number_of(low: u8, high: u8) -> u16 {
@@ -127,11 +128,11 @@ fn drive_all<W: Write>(out: &mut W, asked: [u8; 10]) -> io::Result<()> {
 }
 
 fn main(rt: HostRuntime) -> io::Result<()> {
-    let mut given = Vec::new(rt.alloc());
-    rt.reader().take(10).read_to_end(&mut given)?;
-    let Ok(asked) = <[u8; 10]>::try_from(given.as_slice()) else {
+    let mut asked = [0u8; 10];
+    let got = read_full(&mut rt.reader(), &mut asked)?;
+    if got != 10 {
         return Ok(());
-    };
+    }
     let mut out = io::writer(&rt);
     if 1 < asked[3] {
         return drive_all(&mut out, asked);

@@ -5,7 +5,7 @@
 use model::{Plan, Role};
 use rights::service_rights;
 use std::io;
-use std::io::{BufWriter, Write};
+use std::io::Write;
 use store::Device;
 
 fn say<W: Write>(out: &mut W, word: &[u8], number: u64) -> io::Result<()> {
@@ -58,7 +58,7 @@ fn formatted(image: &mut [u8]) -> Device {
 }
 
 fn main(rt: HostRuntime) -> io::Result<()> {
-    let mut out = BufWriter::new(rt.alloc(), io::writer(&rt))?;
+    let mut out = io::writer(&rt);
     let mut image = [0u8; 20];
     let ready = formatted(&mut image);
     let first = ride(&mut out, ready, &mut image, 70000, 19)?;
@@ -73,6 +73,5 @@ fn main(rt: HostRuntime) -> io::Result<()> {
     let full = ride(&mut out, third, &mut image, 18446744073709481115, 19)?;
     show(&mut out, full, &image, 0)?;
     let refused = ride(&mut out, full, &mut image, 1, 0)?;
-    show(&mut out, refused, &image, 1)?;
-    out.flush()
+    show(&mut out, refused, &image, 1)
 }
