@@ -3,7 +3,7 @@
 // own programs, which lend it room enough.
 #![tactic(auto)]
 
-ghost use Rattle.std.specs.Prelude.{◌≡◌, false, ◌+◌, ◌<◌, ◌≤◌, length, IfOk};
+ghost use Rattle.std.specs.Prelude.{◌≡◌, false, ◌+◌, ◌<◌, ◌≤◌, length, IfOk, OnErr};
 ghost use Rattle.model.specs.declared.Role.TheVariants.{Service};
 ghost use Rattle.model.specs.Refusals.{start_number};
 ghost use Rattle.model.specs.Calls.{begin, cut};
@@ -63,8 +63,9 @@ fn print<W: io::Write>(
     number: usize,
 ) -> io::Result<usize>
     requires { Buffer out.old used × (length word.now ≤ 5) × (number < 100000) }
-    ensures { IfOk result (λ next. Wrote out.old (place_for (length out.old) used)
+    ensures printed { IfOk result (λ next. Wrote out.old (place_for (length out.old) used)
         (answer_line word.now number) out.new next × Buffer out.new next) }
+    ensures failed { OnErr result (out.new ≡ out.old) }
 {
     let at = room(writer, out, used)?;
     Ok(put_answer(out, at, word, number))
@@ -78,8 +79,9 @@ fn print_bad<W: io::Write>(
     number: usize,
 ) -> io::Result<usize>
     requires { Buffer out.old used × (number < 100000) }
-    ensures { IfOk result (λ next. Wrote out.old (place_for (length out.old) used)
+    ensures printed { IfOk result (λ next. Wrote out.old (place_for (length out.old) used)
         (answer_line (ascii "bad") number) out.new next × Buffer out.new next) }
+    ensures failed { OnErr result (out.new ≡ out.old) }
 {
     print(writer, out, used, b"bad", number)
 }
@@ -93,7 +95,8 @@ fn show<W: io::Write>(
     image: &[u8],
 ) -> io::Result<usize>
     requires { Buffer out.old used × Held plan image.now }
-    ensures { IfOk result (λ next. Buffer out.new next) }
+    ensures printed { IfOk result (λ next. Buffer out.new next) }
+    ensures size { length out.new ≡ length out.old }
 {
     let mut place = used;
     let mut unit: u16 = 0;
@@ -150,10 +153,11 @@ fn tell<W: io::Write>(
     used: usize,
 ) -> io::Result<Played>
     requires { Buffer out.old used × (length word.now ≤ 5) }
-    ensures { IfOk result (λ played. (played.device ≡ answer.device) × (played.bad ≡ false)
+    ensures told { IfOk result (λ played. (played.device ≡ answer.device) × (played.bad ≡ false)
         × Buffer out.new played.used
         × Wrote out.old (place_for (length out.old) used) (answer_line word.now answer.number)
         out.new played.used) }
+    ensures failed { OnErr result (out.new ≡ out.old) }
 {
     let device = answer.device;
     let next = print(writer, out, used, word, answer.number as usize)?;
@@ -176,8 +180,10 @@ fn play<W: io::Write>(
     used: usize,
 ) -> io::Result<Played>
     requires { (form_of line.now ≡ Is form) × Held plan image.old × Buffer out.old used }
-    ensures { IfOk result (λ played. Plays form (plays form line.now (modelled device) image.old) played image.new
+    ensures played { IfOk result (λ played. Plays form (plays form line.now (modelled device) image.old) played image.new
         out.old used out.new) }
+    ensures image { image.new ≡ (plays form line.now (modelled device) image.old).image }
+    ensures size { length out.new ≡ length out.old }
 {
     match form {
         // "must be the first line and no other"
@@ -223,7 +229,8 @@ fn play_lines<W: io::Write>(
 ) -> io::Result<usize>
     requires { (from ≤ length text.now + 1) × (length text.now ≤ 65536) × (0 < from)
         × Held plan image.old × Buffer out.old printed }
-    ensures { IfOk result (λ next. Buffer out.new next) }
+    ensures printed { IfOk result (λ next. Buffer out.new next) }
+    ensures size { length out.new ≡ length out.old }
 {
     let mut at = from;
     let mut number: usize = 1;
@@ -267,7 +274,8 @@ fn play_plan<W: io::Write>(
 ) -> io::Result<usize>
     requires { (from ≤ length text.now + 1) × (length text.now ≤ 65536) × (0 < from)
         × (4224 ≤ length image.old) × Buffer out.old 0 }
-    ensures { IfOk result (λ next. Buffer out.new next) }
+    ensures printed { IfOk result (λ next. Buffer out.new next) }
+    ensures size { length out.new ≡ length out.old }
 {
     let answer = open(plan, image);
     let used = print(writer, out, 0, b"plan", answer.number as usize)?;
@@ -296,7 +304,8 @@ fn run<W: io::Write>(
     out: &mut [u8],
 ) -> io::Result<usize>
     requires { (4224 ≤ length image.old) × Buffer out.old 0 }
-    ensures { IfOk result (λ next. Buffer out.new next) }
+    ensures printed { IfOk result (λ next. Buffer out.new next) }
+    ensures size { length out.new ≡ length out.old }
 {
     if 65536 < text.len() {
         return print_bad(writer, out, 0, 0);

@@ -13,32 +13,60 @@ write-requires g c = write_count _ _ _ _ (c.requires.0 ∙ ap Is c.in-Write.is)
 pub cut-requires : goal.cut-requires
 cut-requires g c = cut_count _ _ _ (c.requires.0 ∙ ap Is c.in-Cut.is)
 
-pub returns-in-Plan : goal.returns-in-Plan
+pub returns-in-Plan-clause-played : goal.returns-in-Plan-clause-played
 unfolding plays
-returns-in-Plan g c =
+returns-in-Plan-clause-played g c =
     rw c.in-Plan.is (record { device = refl; image = refl; answered = tt; bad = refl; fits = search rules })
 
-pub returns-in-Write : goal.returns-in-Write
+pub returns-in-Write-clause-played : goal.returns-in-Write-clause-played
 unfolding plays
-returns-in-Write g c =
-    rw c.in-Write.is (told_ok _ _ _ _ _ _ _ _ _ refl refl c.write.ensures c.tell.ensures)
+returns-in-Write-clause-played g c =
+    rw c.in-Write.is (told_ok _ _ _ _ _ _ _ _ _ refl refl c.write.ensures c.tell.ensures.told)
 
-pub returns-in-Step : goal.returns-in-Step
+pub returns-in-Step-clause-played : goal.returns-in-Step-clause-played
 unfolding plays
-returns-in-Step g c =
-    rw c.in-Step.is (told_ok _ _ _ _ _ _ _ _ _ refl refl c.steps.ensures c.tell-in-Step.ensures)
+returns-in-Step-clause-played g c =
+    rw c.in-Step.is (told_ok _ _ _ _ _ _ _ _ _ refl refl c.steps.ensures c.tell-in-Step.ensures.told)
 
-pub returns-in-Cut : goal.returns-in-Cut
+pub returns-in-Cut-clause-played : goal.returns-in-Cut-clause-played
 unfolding plays
-returns-in-Cut g c =
-    rw c.in-Cut.is (told_ok _ _ _ _ _ _ _ _ _ refl refl c.cut.ensures c.tell-in-Cut.ensures)
+returns-in-Cut-clause-played g c =
+    rw c.in-Cut.is (told_ok _ _ _ _ _ _ _ _ _ refl refl c.cut.ensures c.tell-in-Cut.ensures.told)
 
-pub returns-in-Wake : goal.returns-in-Wake
+pub returns-in-Wake-clause-played : goal.returns-in-Wake-clause-played
 unfolding plays
-returns-in-Wake g c =
-    rw c.in-Wake.is (told_ok _ _ _ _ _ _ _ _ _ refl refl c.wake.ensures c.tell-in-Wake.ensures)
+returns-in-Wake-clause-played g c =
+    rw c.in-Wake.is (told_ok _ _ _ _ _ _ _ _ _ refl refl c.wake.ensures c.tell-in-Wake.ensures.told)
 
-pub returns-in_ok-show-in-Show : goal.returns-in_ok-show-in-Show
+pub returns-in_ok-show-in-Show-clause-played : goal.returns-in_ok-show-in-Show-clause-played
 unfolding plays
-returns-in_ok-show-in-Show g c =
+returns-in_ok-show-in-Show-clause-played g c =
     rw c.in-Show.is (record { device = refl; image = refl; answered = tt; bad = refl; fits = search rules })
+
+pub returns-in-Plan-clause-image : goal.returns-in-Plan-clause-image
+unfolding plays
+returns-in-Plan-clause-image g c = rw c.in-Plan.is refl
+
+pub returns-in-Write-clause-image : goal.returns-in-Write-clause-image
+unfolding plays
+returns-in-Write-clause-image g c = rw c.in-Write.is c.write.ensures.image
+
+pub returns-in-Step-clause-image : goal.returns-in-Step-clause-image
+unfolding plays
+returns-in-Step-clause-image g c = rw c.in-Step.is c.steps.ensures.image
+
+pub returns-in-Cut-clause-image : goal.returns-in-Cut-clause-image
+unfolding plays
+returns-in-Cut-clause-image g c = rw c.in-Cut.is c.cut.ensures.image
+
+pub returns-in-Wake-clause-image : goal.returns-in-Wake-clause-image
+unfolding plays
+returns-in-Wake-clause-image g c = rw c.in-Wake.is c.wake.ensures.image
+
+pub returns-in_ok-show-in-Show-clause-image : goal.returns-in_ok-show-in-Show-clause-image
+unfolding plays
+returns-in_ok-show-in-Show-clause-image g c = rw c.in-Show.is refl
+
+pub returns-in_err-show-in-Show-clause-image : goal.returns-in_err-show-in-Show-clause-image
+unfolding plays
+returns-in_err-show-in-Show-clause-image g c = rw c.in-Show.is refl

@@ -26,7 +26,7 @@ play-requires g c =
     (f.says, search rules, search rules)
 
 pub print_bad-requires-then-after : goal.print_bad-requires-then-after
-print_bad-requires-then-after g c = (c.in_ok-after.ensures.fits, omega (arith, c.loop-at-test.true, c.loop-at.invariant.3, c.requires.1))
+print_bad-requires-then-after g c = (c.in_ok-after.ensures.played.fits, omega (arith, c.loop-at-test.true, c.loop-at.invariant.3, c.requires.1))
 
 pub overflow_add-at : goal.overflow_add-at
 overflow_add-at g c =

@@ -2,5 +2,5 @@
 use borrow.Author.Rules.{rules}
 use Rattle.play.proofs.print.Goals as goal
 
-pub returns : goal.returns
-returns g c = (rw (← c.in_ok-at.ensures.0) c.put_answer.ensures.0, search rules)
+pub returns-clause-printed : goal.returns-clause-printed
+returns-clause-printed g c = (rw (← c.in_ok-at.ensures.0) c.put_answer.ensures.0, search rules)
