@@ -117,6 +117,7 @@ fn cut_list(line: &[u8]) -> Line
 }
 
 // `(step N)`, N 1 to 65535.
+#[tactic(auto, unfolding(crate::specs::Line::step_of))]
 fn step(line: &[u8]) -> Line
     ensures { result ≡ step_of line.now }
 {

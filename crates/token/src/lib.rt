@@ -98,6 +98,7 @@ pub fn hex(line: &[u8], at: usize) -> Item
 }
 
 // The number with one decimal digit more, if there is one. A number that begins with 0 has no more.
+#[tactic(auto, unfolding(crate::specs::Token::more_at))]
 fn more(line: &[u8], item: Item) -> Item
     requires { item.value ≤ 9999 }
     ensures { (result ≡ more_at line.now item) × (result.value ≤ 10 * item.value + 9) }
