@@ -1,10 +1,10 @@
 #!/usr/bin/env python3
-# auto.py CRATE ANSWERS: as answer.py, but «name» in an answer stands for the place in c where the record `name` lies (args: where the arguments lie)
+# PROOF_TOOLS=FOLDER auto.py CRATE ANSWERS: as answer.py, but «name» in an answer stands for the place in c where the record `name` lies (args: where the arguments lie)
 import sys,re,os,subprocess
 crate,af=sys.argv[1:3]
 fn=None; out=[]; paths={}
 def load(fn):
-    r=subprocess.run(['python3','/work/shared/tools/proof/paths.py',crate,fn],capture_output=True,text=True).stdout
+    r=subprocess.run(['python3',os.environ['PROOF_TOOLS']+'/paths.py',crate,fn],capture_output=True,text=True).stdout
     d={}; need=None
     for l in r.split('\n'):
         m=re.match(r'Need-(\S+):',l)
@@ -26,4 +26,4 @@ for l in open(af,encoding='utf-8').read().split('\n'):
         return 'c'+' .before'*d[n]
     out.append(re.sub(r'«([\w-]+)»',f,l))
 open('/tmp/auto.out','w').write('\n'.join(out))
-subprocess.run(['python3','/work/shared/tools/proof/answer.py',crate,'/tmp/auto.out']+sys.argv[3:])
+subprocess.run(['python3',os.environ['PROOF_TOOLS']+'/answer.py',crate,'/tmp/auto.out']+sys.argv[3:])

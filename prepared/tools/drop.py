@@ -1,5 +1,5 @@
-import re,sys,subprocess
-out=subprocess.run(['python3','/tmp/g/unused.py',sys.argv[1]],capture_output=True,text=True).stdout
+import os,re,sys,subprocess
+out=subprocess.run(['python3',os.path.join(os.path.dirname(os.path.abspath(__file__)),'unused.py'),sys.argv[1]],capture_output=True,text=True).stdout
 for l in out.splitlines():
     f,n=l.split(' ',1)
     if len(sys.argv)>2 and not re.search(sys.argv[2],f): continue
