@@ -9,26 +9,12 @@ pub fn amount_of(bytes: &[u8]) -> u64
     requires { length bytes.now ≡ 8 }
     ensures { result ≡ amount bytes.now }
 {
-    let mut value: u64 = 0;
-    let mut i: usize = 0;
-    while i < 8 {
-        value = (bytes[7 - i] as u64) + value * 256;
-        i = i + 1;
-    }
-    value
+    u64::from_le_bytes(bytes.try_into().unwrap())
 }
 
 // The eight bytes that hold a number.
 pub fn bytes_of(value: u64) -> [u8; 8]
     ensures { result ≡ in_bytes 8 value }
 {
-    let mut bytes = [0u8; 8];
-    let mut rest = value;
-    let mut at: usize = 0;
-    while at < 8 {
-        bytes[at] = (rest % 256) as u8;
-        rest = rest / 256;
-        at = at + 1;
-    }
-    bytes
+    value.to_le_bytes()
 }

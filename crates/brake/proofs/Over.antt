@@ -1,5 +1,10 @@
 -- The drive over a lent table, by the code's tests.
 use Prim.Native.Nat.{ℕ, zero, suc, ◌+◌, ◌*◌, ◌-◌, ◌/◌}
+use Rattle.std.specs.Prelude.{Result, Err}
+use Rattle.model.specs.declared.refusals.Refusal.{Refusal}
+use Rattle.model.specs.declared.refusals.Refusal.TheVariants.{NoRoom}
+use Rattle.model.specs.Numbers.{number_of}
+use Rattle.model.proofs.Numbered.{number_some}
 use mathlib.Core.Path.{◌≡◌, refl, sym, ◌∙◌}
 use mathlib.Core.List.{List}
 use lib.ListN.{length, get_or}
@@ -15,24 +20,30 @@ pub drive_refused : (k l r : ℕ) → k ≡ drive_number l r → ¬ (k ≡ 0) �
 unfolding drive
 drive_refused k l r e h = refused_drives_0 (drive_number l r) _ (λ z. h (e ∙ z))
 
-module _ (table : List ℕ) (l r : ℕ) where
-  abbrev Over : ℕ → ℕ → Type 0
-  Over n d = Answers (record { number = n; drive = d }) (drive_over_number table l r) (drive_over table l r)
+-- what is refused drives 0
+refused : (e : Refusal) (n x : ℕ) → number_of e ≡ n → Answers (Err e) n (drive_unless_refused n x)
+refused e n x is = record { number = is; drive = refused_drives_0 n x (λ z. number_some e (is ∙ z)) }
 
-  pub wrong_table : ¬ (length table ≡ 1280) → Over 11 0
+pub refuses : (e : Refusal) (l r : ℕ) → number_of e ≡ drive_number l r → Answers (Err e) (drive_number l r) (drive l r)
+unfolding drive
+refuses e l r is = refused e _ _ is
+
+module _ (table : List ℕ) (l r : ℕ) where
+  abbrev Over : Result ℕ Refusal → Type 0
+  Over answer = Answers answer (drive_over_number table l r) (drive_over table l r)
+
+  pub wrong_table : ¬ (length table ≡ 1280) → Over (Err NoRoom)
   unfolding drive_over drive_over_number
-  wrong_table h = rw (ne_eqb (length table) 1280 h) (record { number = refl; drive = refl })
+  wrong_table h = refused NoRoom _ _ (rw (ne_eqb (length table) 1280 h))
 
   module _ (fits : length table ≡ 1280) where
     pub over_number : drive_over_number table l r ≡ drive_number l r
     unfolding drive_over_number
     over_number = rw (eq-eqb (length table) 1280 fits)
 
-    pub over_refused : (k : ℕ) → k ≡ drive_number l r → ¬ (k ≡ 0) → Over k 0
+    pub over_refused : (e : Refusal) → number_of e ≡ drive_number l r → Over (Err e)
     unfolding drive_over
-    over_refused k e h =
-        let n : k ≡ drive_over_number table l r = e ∙ sym over_number in
-        record { number = n; drive = refused_drives_0 (drive_over_number table l r) _ (λ z. h (n ∙ z)) }
+    over_refused e is = refused e _ _ (is ∙ sym over_number)
 
     pub over_entry : drive_number l r ≡ 0 → drive_over table l r ≡ get_or table (64 * (l - 1) + r / 4) 0
     unfolding drive_over

@@ -2,12 +2,13 @@
 // 12-bit converter." The rule itself stands in the model's specs/Drive.antt.
 #![tactic(auto)]
 
-ghost use Rattle.std.specs.Prelude.{◌≡◌, ◌+◌, ◌*◌, ◌-◌, ◌/◌};
+ghost use Rattle.std.specs.Prelude.{◌≡◌, ◌+◌, ◌*◌, ◌-◌, ◌/◌, OnOk};
+ghost use Rattle.model.specs.Numbers.{numbered};
 ghost use Rattle.model.specs.Drive.{drive_number, drive};
 ghost use Rattle.brake.specs.Over.{drive_over_number, drive_over, Answers};
 ghost use Rattle.brake.specs.Promises.{InRange};
 
-use model::refusals::{BAD_LEVEL, BAD_RATE, NO_ROOM};
+use model::refusals::Refusal;
 
 // "The brake table has 1,280 entries, 20 levels by 64 bins, in the code": entry 64 × (level - 1) + bin.
 const DRIVES: [u16; 1280] = [
@@ -91,74 +92,44 @@ const DRIVES: [u16; 1280] = [
     3920, 3930,
 ];
 
-// The number of the refusal and drive 0, or 0 and the drive in steps of the converter.
-#[derive(Clone, Copy)]
-pub struct Driven {
-    pub number: u16,
-    pub drive: u16,
-}
-
 // Where the table has a level and a rate. "Bin c = floor(r / 4)."
 fn place(level: u16, rate: u16) -> usize
     requires { InRange level rate }
     ensures { result ≡ 64 * (level - 1) + rate / 4 }
 {
-    64 * ((level - 1) as usize) + ((rate >> 2) as usize)
+    64 * usize::from(level - 1) + usize::from(rate >> 2)
 }
 
 // "9 level 0 or above 20; 10 rate above 255": the lowest number that applies is given, so the level is looked at first.
-fn refusal(level: u16, rate: u16) -> u16
-    ensures { result ≡ drive_number level rate }
+#[tactic(auto, unfolding(model::specs::Drive::drive_number, model::specs::Refusals::first))]
+fn check_range(level: u16, rate: u16) -> Result<(), Refusal>
+    ensures number { numbered result ≡ drive_number level rate }
+    ensures in_range { OnOk result (InRange level rate) }
 {
     if level == 0 || 20 < level {
-        return BAD_LEVEL;
+        return Err(Refusal::BadLevel);
     }
     if 255 < rate {
-        return BAD_RATE;
+        return Err(Refusal::BadRate);
     }
-    0
+    Ok(())
 }
 
-// The drive over the constant table.
-pub fn drive(level: u16, rate: u16) -> Driven
+// The drive over the constant table, in steps of the converter.
+pub fn drive(level: u16, rate: u16) -> Result<u16, Refusal>
     ensures { Answers result (drive_number level rate) (drive level rate) }
 {
-    let number = refusal(level, rate);
-    if number != 0 {
-        return Driven {
-            number: number,
-            drive: 0,
-        };
-    }
-    let at = place(level, rate);
-    let entry = DRIVES[at];
-    Driven {
-        number: 0,
-        drive: entry,
-    }
+    check_range(level, rate)?;
+    Ok(DRIVES[place(level, rate)])
 }
 
 // The drive over a lent table of 1,280 entries, such as a bike maker's curve. Refused: 11, 9, 10, in this order.
-pub fn drive_over(table: &[u16], level: u16, rate: u16) -> Driven
+pub fn drive_over(table: &[u16], level: u16, rate: u16) -> Result<u16, Refusal>
     ensures { Answers result (drive_over_number table.now level rate) (drive_over table.now level rate) }
 {
     if table.len() != 1280 {
-        return Driven {
-            number: NO_ROOM,
-            drive: 0,
-        };
+        return Err(Refusal::NoRoom);
     }
-    let number = refusal(level, rate);
-    if number != 0 {
-        return Driven {
-            number: number,
-            drive: 0,
-        };
-    }
-    let index = place(level, rate);
-    let entry = table[index];
-    Driven {
-        number: 0,
-        drive: entry,
-    }
+    check_range(level, rate)?;
+    Ok(table[place(level, rate)])
 }

@@ -1,10 +1,10 @@
 -- The next store by the code's own tests on the number of stores made.
-use Prim.Native.Nat.{ℕ, zero, suc, ◌+◌, ◌-◌, ◌*◌, ◌≤◌, ◌<◌}
-use mathlib.Core.Path.{◌≡◌, refl, ap, ◌∙◌}
-use mathlib.Core.List.{List, [], ◌∷◌}
+use Prim.Native.Nat.{ℕ, ◌+◌, ◌-◌, ◌*◌, ◌≤◌, ◌<◌}
+use mathlib.Core.Path.{◌≡◌, ap, ◌∙◌}
+use mathlib.Core.List.{List, []}
 use mathlib.Core.Option.{Option, some}
 use native.Mathlib.Omega.{arith}
-use lib.ListN.{length, get_or, get_elem?}
+use lib.ListN.{get_or, get_elem?}
 use Rattle.model.specs.declared.Plan.{Plan}
 use Rattle.model.specs.declared.Direction.{Direction}
 use Rattle.model.specs.declared.Direction.TheVariants.{AToB, BToA}
@@ -75,9 +75,3 @@ module _ (p : Plan) (image : List ℕ) (u n w : ℕ) (d : Direction) (is : w ≡
   pub cleanup_ok : w ≤ n → n < width p u + 1 → get_elem? (cleanup_stores p image u d) n ≡ some (store u marker OK)
   unfolding next
   cleanup_ok h l = ap (get_elem? (cleanup_stores p image u d)) (omega arith) ∙ next_settle p [] image u d
-
--- past the end of a payload there are zeros
-pub zero_past : (xs : List ℕ) (i : ℕ) → length xs ≤ i → 0 ≡ get_or xs i 0
-zero_past [] i h = refl
-zero_past (x ∷ xs) zero h = absurd (omega arith)
-zero_past (x ∷ xs) (suc i) h = zero_past xs i (omega arith)

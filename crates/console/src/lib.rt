@@ -6,7 +6,8 @@ ghost use Rattle.store.specs.Modelled.{modelled, Gives};
 
 use store::{Answer, Device};
 
-// Makes the next store of a write or a cleanup; gives step's number. Refused (1 to 5), it leaves device and image as they came.
+// Makes the next store of a write or a cleanup; gives step's number, as step itself does, by document 01's form. Refused (1 to 5), it
+// leaves device and image as they came.
 pub fn pass(device: &mut Device, image: &mut [u8]) -> u16
     ensures { Gives (record { number = result; device = device.new }) image.new (step (modelled device.old) image.old) }
 {
@@ -23,7 +24,7 @@ pub fn passed(device: Device, image: &mut [u8]) -> Answer
     let mut held = device;
     let number = pass(&mut held, image);
     Answer {
-        number: number,
+        number,
         device: held,
     }
 }

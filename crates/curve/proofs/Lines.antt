@@ -8,7 +8,7 @@ use lib.Seq.{drop_at}
 use borrow.Author.Tests.{eq-eqb, ne_eqb, lt-ltb, le-ltb}
 use Rattle.model.proofs.Compare.{below, above, order, equal, differ, same}
 use Rattle.token.specs.Lines.{line_end, line_at}
-use Rattle.list.specs.declared.Kind.TheVariants.{Entry}
+use Rattle.token.specs.Token.{entry_at}
 use Rattle.list.proofs.Values.{values_length}
 use Rattle.row.specs.Row.{row_at, row_of, lower_of, row_below, line_number}
 use Rattle.row.proofs.Line.{by_lower, lower_held}
@@ -64,7 +64,7 @@ module _ (i : ℕ) (text : List ℕ) (at : ℕ) (scratch : List ℕ) (j : Judged
         → Judged (i + 1) text next then
     judged_on z next then en et =
         let row : List ℕ = row_of (i + 1) (line_at text at) in
-        let size : length row ≡ 64 = values_length Entry (line_at text at) (row_at (i + 1) (line_at text at)) 64 in
+        let size : length row ≡ 64 = values_length entry_at (line_at text at) (row_at (i + 1) (line_at text at)) 64 in
         record {
           done = j.done ++ row;
           is = lines_go i text at j.done (curve_of text) j.is more k by_done z next (j.done ++ row) en refl;

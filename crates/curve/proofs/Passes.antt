@@ -9,7 +9,7 @@ use lib.ListN.{length, length-append}
 use lib.Seq.{drop_at, take_at}
 use borrow.Author.Tests.{eq-eqb, ne_eqb}
 use Rattle.model.proofs.Compare.{equal, differ, same}
-use Rattle.list.specs.declared.Kind.TheVariants.{Entry}
+use Rattle.token.specs.Token.{entry_at}
 use Rattle.list.proofs.Values.{values_length}
 use Rattle.token.specs.Lines.{line_end, line_at}
 use Rattle.row.specs.Row.{row_at, row_of, in_rule, lower_of, line_number}
@@ -43,7 +43,7 @@ all_good (suc n) text at done e =
     elim (same (line_number (19 - n) text at done) 0) [
       | equal z ↦
           let row : List ℕ = row_of (19 - n + 1) (line_at text at) in
-          let size : length row ≡ 64 = values_length Entry (line_at text at) (row_at (19 - n + 1) (line_at text at)) 64 in
+          let size : length row ≡ 64 = values_length entry_at (line_at text at) (row_at (19 - n + 1) (line_at text at)) 64 in
           let goes = eq-eqb (line_number (19 - n) text at done) 0 z in
           let more = all_good n text (line_end text at + 1) (done ++ row) (rw goes at e) in
           record {

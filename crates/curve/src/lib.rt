@@ -3,61 +3,53 @@
 #![tactic(auto)]
 
 ghost use Rattle.std.specs.Prelude.{◌≡◌, ◌≤◌, length};
+ghost use Rattle.model.specs.Numbers.{numbered};
 ghost use Rattle.curve.specs.Curve.{curve_of, load_number, loaded};
 
-use model::refusals::{BAD_LINE, NO_ROOM};
+use model::refusals::Refusal;
 use row::{line_check, line_into};
 
-// Judges all lines: 0, or the first line's number that has one. A line 21 is 12.
-fn check_lines(text: &[u8], scratch: &mut [u16]) -> u16
+// Judges all lines; the first that is refused says why. A line 21 is refused too.
+#[tactic(auto, using(crate::proofs::Lines::judged_first, crate::proofs::Lines::judged_on))]
+fn check_lines(text: &[u8], scratch: &mut [u16]) -> Result<(), Refusal>
     requires { 64 ≤ length scratch.old }
-    ensures { (result ≡ (curve_of text.now).number)
-        × (length scratch.new ≡ length scratch.old) }
+    ensures number { numbered result ≡ (curve_of text.now).number }
+    ensures size { length scratch.new ≡ length scratch.old }
 {
-    let mut at: usize = 0;
-    let mut i: usize = 0;
-    while i < 20 {
-        let past = line_check(text, at, &mut scratch[..], i);
-        let number = past.number;
-        if number != 0 {
-            return number;
-        }
-        at = past.at;
-        i = i + 1;
+    let mut at = 0;
+    for i in 0..20 {
+        at = line_check(text, at, scratch, i)?;
     }
-    if at < text.len() { BAD_LINE } else { 0 }
+    if at < text.len() {
+        return Err(Refusal::BadLine);
+    }
+    Ok(())
 }
 
 // Reads all lines of a text that is known to be good into the table.
+#[tactic(auto, using(crate::proofs::Lines::lines_go, crate::proofs::Lines::line_known))]
 fn write_lines(text: &[u8], table: &mut [u16])
     requires { (length table.old ≡ 1280) × ((curve_of text.now).number ≡ 0) }
     ensures { (table.new ≡ (curve_of text.now).entries) × (length table.new ≡ 1280) }
 {
-    let mut at: usize = 0;
-    let mut written: usize = 0;
-    while written < 20 {
-        at = line_into(text, at, &mut table[..], written);
-        written = written + 1;
+    let mut at = 0;
+    for line in 0..20 {
+        at = line_into(text, at, table, line);
     }
 }
 
-// Loads a curve's text into the table. 0, or why it is refused: 11, 12 or 13; the table is then as it was. The scratch is free.
-pub fn load(text: &[u8], table: &mut [u16], scratch: &mut [u16]) -> u16
-    ensures { (result ≡ load_number text.now (length table.old) (length scratch.old))
-        × (table.new ≡ loaded text.now table.old (length scratch.old))
-        × (length table.new ≡ length table.old)
-        × (length scratch.new ≡ length scratch.old) }
+// Loads a curve's text into the table. A refusal, 11, 12 or 13, leaves the table as it was. The scratch is free.
+#[tactic(auto, using(crate::proofs::Room::other_table_lem, crate::proofs::Room::short_scratch_lem, crate::proofs::Room::by_text, crate::proofs::Room::refused_leaves_the_table, crate::proofs::Loaded::load_accepted, model::proofs::Numbered::number_some))]
+pub fn load(text: &[u8], table: &mut [u16], scratch: &mut [u16]) -> Result<(), Refusal>
+    ensures number { numbered result ≡ load_number text.now (length table.old) (length scratch.old) }
+    ensures table { table.new ≡ loaded text.now table.old (length scratch.old) }
+    ensures entries { length table.new ≡ length table.old }
+    ensures size { length scratch.new ≡ length scratch.old }
 {
-    if table.len() != 1280 {
-        return NO_ROOM;
+    if table.len() != 1280 || scratch.len() < 64 {
+        return Err(Refusal::NoRoom);
     }
-    if scratch.len() < 64 {
-        return NO_ROOM;
-    }
-    let refusal = check_lines(text, &mut scratch[..]);
-    if refusal != 0 {
-        return refusal;
-    }
-    write_lines(text, &mut table[..]);
-    refusal
+    check_lines(text, scratch)?;
+    write_lines(text, table);
+    Ok(())
 }

@@ -3,90 +3,74 @@
 // and both come back new.
 #![tactic(auto)]
 
-use model::{Plan, Role};
-use rights::service_rights;
+use model::Role;
+use rights::service_plan;
 use std::io;
 use std::io::Write;
 use store::Device;
 
 // A formatted device with "turn" saved.
 fn first_save(image: &mut [u8]) -> Device {
-    let plan = Plan {
-        count: 1,
-        widths: [4, 0, 0, 0, 0, 0, 0, 0],
-        page: 1,
-        grouped: false,
-        rights: service_rights(),
-    };
+    let plan = service_plan(&[4], 1, false);
     let started = Device::start(plan);
-    let formatted = started.device.format(&mut image[..]);
-    let begun = formatted
-        .device
-        .begin(&image[..], Role::Service, 0, b"turn");
-    let saved = begun.device.steps(&mut image[..], 11);
+    let formatted = started.device.format(image);
+    let begun = formatted.device.begin(image, Role::Service, 0, b"turn");
+    let saved = begun.device.steps(image, 11);
     saved.device
 }
 
 // A save of "gone" that a cut ends after three of its eleven stores; then the console wakes and repairs.
 fn second_save(device: Device, image: &mut [u8]) -> Device {
-    let begun = device.begin(&image[..], Role::Service, 0, b"gone");
-    let halfway = begun.device.steps(&mut image[..], 3);
-    let dead = halfway.device.cut(&mut image[..], b"Z");
-    let woken = dead.device.wake(&image[..]);
-    let repaired = woken.device.steps(&mut image[..], 5);
+    let begun = device.begin(image, Role::Service, 0, b"gone");
+    let halfway = begun.device.steps(image, 3);
+    let dead = halfway.device.cut(image, b"Z");
+    let woken = dead.device.wake(image);
+    let repaired = woken.device.steps(image, 5);
     repaired.device
 }
 
 fn ride<W: Write>(out: &mut W, image: &mut [u8]) -> io::Result<()> {
-    let saved = first_save(&mut image[..]);
-    let ready = second_save(saved, &mut image[..]);
-    out.write_all(ready.read(&image[..], Role::Service, 0))?;
-    out.write_all(b"\n")?;
+    let saved = first_save(image);
+    let ready = second_save(saved, image);
+    out.write_all(ready.read(image, Role::Service, 0))?;
+    writeln!(out)?;
     // 11, 3 and 5; the torn store doesn't count
     if ready.stores == 19 {
-        out.write_all(b"19 stores\n")?;
+        writeln!(out, "19 stores")?;
     }
     Ok(())
 }
 
 // Units of four bytes and of one, and a group record that holds both: a byte for the count, one for each unit number, the five bytes.
 fn grouped_device(image: &mut [u8]) -> Device {
-    let plan = Plan {
-        count: 3,
-        widths: [4, 1, 8, 0, 0, 0, 0, 0],
-        page: 1,
-        grouped: true,
-        rights: service_rights(),
-    };
+    let plan = service_plan(&[4, 1, 8], 1, true);
     let started = Device::start(plan);
-    let formatted = started.device.format(&mut image[..]);
+    let formatted = started.device.format(image);
     formatted.device
 }
 
 // "laps" into unit 0 and "7" into unit 1, cut after the 19 stores of the record and the 11 of "laps". The cut tears unit 1's marker, so
 // 2 stores clean up that unit; then 35 write the members again and clear the record.
 fn together(device: Device, image: &mut [u8]) -> Device {
-    let begun = device.group(&image[..], &[0, b'l', b'a', b'p', b's', 1, b'7']);
-    let halfway = begun.device.steps(&mut image[..], 30);
-    let dead = halfway.device.cut(&mut image[..], b"Z");
-    let woken = dead.device.wake(&image[..]);
-    let repaired = woken.device.steps(&mut image[..], 37);
+    let begun = device.group(image, &[0, b'l', b'a', b'p', b's', 1, b'7']);
+    let halfway = begun.device.steps(image, 30);
+    let dead = halfway.device.cut(image, b"Z");
+    let woken = dead.device.wake(image);
+    let repaired = woken.device.steps(image, 37);
     repaired.device
 }
 
 fn ride_and_rider<W: Write>(out: &mut W, image: &mut [u8]) -> io::Result<()> {
-    let formatted = grouped_device(&mut image[..]);
-    let ready = together(formatted, &mut image[..]);
-    out.write_all(ready.read(&image[..], Role::Service, 0))?;
-    out.write_all(b" ")?;
-    out.write_all(ready.read(&image[..], Role::Service, 1))?;
-    out.write_all(b"\n")
+    let formatted = grouped_device(image);
+    let ready = together(formatted, image);
+    out.write_all(ready.read(image, Role::Service, 0))?;
+    write!(out, " ")?;
+    out.write_all(ready.read(image, Role::Service, 1))?;
+    writeln!(out)
 }
 
 fn main(rt: HostRuntime) -> io::Result<()> {
     let mut out = io::writer(&rt);
-    let mut image = [0u8; 9];
-    ride(&mut out, &mut image)?;
-    let mut larger = [0u8; 29];
-    ride_and_rider(&mut out, &mut larger)
+    ride(&mut out, &mut [0; 9])?;
+    ride_and_rider(&mut out, &mut [0; 29])
 }

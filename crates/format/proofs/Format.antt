@@ -1,27 +1,16 @@
 -- Zeros in a span, and formatted units one after the other.
-use Prim.Native.Nat.{ℕ, zero, suc, ◌+◌, ◌-◌, ◌<◌, ◌≤◌}
-use mathlib.Core.Path.{◌≡◌, ◌∙◌, sym, ap}
-use mathlib.Core.List.{List, [], ◌∷◌, ◌++◌, append_assoc}
+use Prim.Native.Nat.{ℕ, ◌+◌, ◌-◌, ◌≤◌}
+use mathlib.Core.Path.{◌≡◌, ◌∙◌, sym}
+use mathlib.Core.List.{List, ◌∷◌, ◌++◌, append_assoc}
 use native.Mathlib.Omega.{arith}
 use native.Mathlib.Numerals.{add-one}
-use lib.ListN.{length, take, drop, set, replicate, length-take, length-drop, replicate-append-replicate}
-use lib.Seq.{take-suc-set, take_at, drop_at, drop-drop}
+use lib.ListN.{length, take, drop, replicate, length-take, length-drop}
+use lib.Seq.{take_at, drop_at, drop-drop}
 use Rattle.model.specs.declared.Plan.{Plan}
 use Rattle.model.specs.Marker.{OK}
 use Rattle.model.specs.Layout.{unit_length, base, fresh}
 use Rattle.model.proofs.RefusalLaws.{PlanOk}
 use Rattle.model.proofs.LayoutLaws.{length_fresh}
-
-pub zero_more : (xs : List ℕ) (i : ℕ) → i < length xs → take i xs ≡ replicate i 0
-    → take (i + 1) (set xs i 0) ≡ replicate (i + 1) 0
-zero_more xs i h e =
-    rw (add-one i) (take-suc-set xs i 0 h) ∙ ap (λ (t : List ℕ). t ++ (0 ∷ [])) e ∙ replicate-append-replicate i 1 0
-
-pub marker_first : (n : ℕ) → 0 < n → set {A = ℕ} (replicate n 0) 0 OK ≡ OK ∷ replicate (n - 1) 0
-marker_first zero h = absurd (omega arith)
-marker_first (suc n) h =
-    let e : suc n - 1 ≡ n = omega arith in
-    rw e
 
 -- one more unit: ys is the span of unit u after it was formatted, b where it begins and l its length
 pub fresh_more : (p : Plan) → PlanOk p → (u b l : ℕ) (before image ys : List ℕ) → b ≡ base p u → l ≡ unit_length p u

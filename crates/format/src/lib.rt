@@ -11,23 +11,12 @@ use layout::unit_length;
 use marker::Marker;
 use model::Plan;
 
-// Zeros in all of a span.
-fn clear(span: &mut [u8])
-    ensures { span.new ≡ replicate (length span.old) 0 }
-{
-    let mut i: usize = 0;
-    while i < span.len() {
-        span[i] = 0;
-        i = i + 1;
-    }
-}
-
 // A unit as format leaves it: marker OK, and zeros.
 fn format_unit(span: &mut [u8])
     requires { 0 < length span.old }
     ensures { span.new ≡ OK ∷ replicate (length span.old - 1) 0 }
 {
-    clear(&mut span[..]);
+    span.fill(0);
     span[0] = Marker::OK;
 }
 
@@ -36,14 +25,11 @@ pub fn format_units(plan: Plan, image: &mut [u8])
     requires { PlanOk plan × (total plan ≤ length image.old) }
     ensures { image.new ≡ formatted plan image.old }
 {
-    let count = plan.count;
-    let mut unit: u16 = 0;
-    let mut base: usize = 0;
-    while unit < count {
+    let mut base = 0;
+    for unit in 0..plan.count {
         let end = base + unit_length(plan, unit);
         format_unit(&mut image[base..end]);
         base = end;
-        unit = unit + 1;
     }
 }
 
@@ -53,12 +39,8 @@ pub fn fill(span: &mut [u8], bytes: &[u8])
     ensures { span.new
         ≡ bytes.now ++ replicate (length span.old - length bytes.now) 0 }
 {
-    clear(&mut span[..]);
-    let mut i: usize = 0;
-    while i < bytes.len() {
-        span[i] = bytes[i];
-        i = i + 1;
-    }
+    span[..bytes.len()].copy_from_slice(bytes);
+    span[bytes.len()..].fill(0);
 }
 
 // A payload as the device holds it: zeros after it.

@@ -1,92 +1,71 @@
 -- How far members reach.
 use Prim.Native.Nat.{ℕ, zero, suc, ◌+◌, ◌-◌, ◌≤◌, ◌<◌}
-use mathlib.Core.Path.{◌≡◌, refl, ap, ap₂, sym, ◌∙◌}
+use mathlib.Core.Path.{◌≡◌, refl, ap, ◌∙◌}
 use mathlib.Core.List.{List, [], ◌∷◌}
-use mathlib.Core.Bool.{true, ◌&&◌}
 use native.Mathlib.Omega.{arith}
-use lib.Dec.{eqb}
-use lib.ListN.{length, get_or, drop, replicate, length-drop, length-take}
-use lib.Seq.{drop-cons}
+use lib.ListN.{length, get_or, drop, length-drop, length-take}
 use Rattle.model.specs.declared.Plan.{Plan}
 use Rattle.model.specs.Plans.{width}
-use Rattle.model.specs.Groups.{alike}
 use Rattle.group.specs.Parts.{extent}
-use Rattle.group.proofs.Walk.{past_end, extent_at}
-
-extent_nil : (p : Plan) (n : ℕ) → extent p n [] ≡ 0
-unfolding extent
-extent_nil p zero = refl
-extent_nil p (suc n) = refl
+use Rattle.group.specs.Members.{Begins, Short}
+use Rattle.group.proofs.Walk.{past_end}
 
 extent_none : (p : Plan) (bytes : List ℕ) → extent p 0 bytes ≡ 0
 unfolding extent
 extent_none p bytes = refl
 
--- the first `passed` of n members reach to `at`
-pub record Reached (p : Plan) (g : List ℕ) (n at passed : ℕ) : Type 0 where
-  pub few : passed ≤ n
-  pub inside : at ≤ length g
-  pub rest : extent p n g ≡ at + extent p (n - passed) (drop at g)
+-- a member that is cut short takes what there is
+extent_short : (p : Plan) (n : ℕ) (xs : List ℕ) → Short p xs → extent p (suc n) xs ≡ length xs
+unfolding extent
+extent_short p n [] h = refl
+extent_short p zero (u ∷ xs) h = omega (arith, length-take (width p u) xs)
+extent_short p (suc n) (u ∷ xs) h =
+    omega (arith, length-take (width p u) xs, ap (extent p (suc n)) (past_end xs (width p u) (omega arith)))
 
-pub reached_none : (p : Plan) (g : List ℕ) (n : ℕ) → Reached p g n 0 0
-reached_none p g n =
-    record { few = omega arith; inside = omega arith; rest = sym (ap (λ (k : ℕ). k) (omega (arith, ap (λ (k : ℕ). extent p k g) {x = n - 0} {y = n} (omega arith)))) }
+extent_more : (p : Plan) (n : ℕ) (xs : List ℕ) → width p (get_or xs 0 0) < length xs
+    → extent p (suc n) xs ≡ suc (width p (get_or xs 0 0)) + extent p n (drop (suc (width p (get_or xs 0 0))) xs)
+unfolding extent
+extent_more p n [] h = absurd (omega arith)
+extent_more p n (u ∷ xs) h = omega (arith, length-take (width p u) xs)
 
-module _ {p : Plan} {g : List ℕ} {n at passed : ℕ} (r : Reached p g n at passed) where
-  pub reached_end : length g ≤ at → extent p n g ≡ at
-  reached_end h =
-      omega (arith, r.rest, ap (extent p (n - passed)) (past_end g at h), extent_nil p (n - passed))
+-- the members passed take the bytes before the rest, and n are still to pass
+pub record Reached (p : Plan) (g rest : List ℕ) (members n : ℕ) : Type 0 where
+  pub inside : length rest ≤ length g
+  pub after : extent p members g ≡ (length g - length rest) + extent p n rest
 
-  pub reached_all : n ≤ passed → extent p n g ≡ at
-  reached_all h =
-      omega (arith, r.rest, r.few, ap (λ (k : ℕ). extent p k (drop at g)) {x = n - passed} {y = 0} (omega (arith, r.few)), extent_none p (drop at g))
+pub reached_none : (p : Plan) (g : List ℕ) (n : ℕ) → Reached p g g n (n - 0)
+reached_none p g n = record { inside = omega arith; after = omega (arith, ap (λ (k : ℕ). extent p k g) {x = n - 0} {y = n} (omega arith)) }
 
-  -- one more begins
-  more_is : passed < n → (h : at < length g) → extent p (n - passed) (drop at g) ≡ extent p (suc (n - suc passed)) (drop at g)
-  more_is l h = ap (λ (k : ℕ). extent p k (drop at g)) {x = n - passed} {y = suc (n - suc passed)} (omega arith)
+module _ {p : Plan} {g rest : List ℕ} {members n : ℕ} (r : Reached p g rest members n) where
+  pub reached_all : n ≡ 0 → extent p members g ≡ length g - length rest
+  reached_all e = omega (arith, r.after, ap (λ (k : ℕ). extent p k rest) e, extent_none p rest)
 
-  pub reached_short : (w : ℕ) → passed < n → at < length g → w ≡ width p (get_or g at 0) → length g - at ≤ w → extent p n g ≡ length g
-  reached_short w l h e s =
-      let q : drop (at + 1 + width p (get_or g at 0)) g ≡ [] = past_end g (at + 1 + width p (get_or g at 0)) (omega arith) in
+  pub reached_short : 0 < n → Short p rest → extent p members g ≡ length g
+  reached_short l h =
       omega (
         arith,
-        r.rest,
-        more_is l h,
-        extent_at p g at h (n - suc passed),
-        length-take (width p (get_or g at 0)) (drop (suc at) g),
-        length-drop (suc at) g,
-        ap (extent p (n - suc passed)) q,
-        extent_nil p (n - suc passed),
+        r.inside,
+        r.after,
+        ap (λ (k : ℕ). extent p k rest) {x = n} {y = suc (n - 1)} (omega arith),
+        extent_short p (n - 1) rest h,
       )
 
-  pub reached_more : (w : ℕ) → passed < n → at < length g → w ≡ width p (get_or g at 0) → w < length g - at
-      → Reached p g n (at + 1 + w) (passed + 1)
-  reached_more w l h e s =
+  pub reached_more : {u : ℕ} {behind : List ℕ} {k : ℕ} → n ≡ suc k → Begins p rest u behind → Reached p g behind members k
+  reached_more {u} {behind} {k} l begins =
+      let wide : width p u ≡ width p (get_or rest 0 0) = ap (width p) begins.0 in
+      let size : length behind ≡ length rest - suc (width p u) = ap length begins.2 ∙ length-drop (suc (width p u)) rest in
       record {
-        few = omega arith;
-        inside = omega arith;
-        rest = omega (
+        inside = omega (arith, r.inside, size);
+        after = omega (
           arith,
-          r.rest,
-          more_is l h,
-          extent_at p g at h (n - suc passed),
-          length-take (width p (get_or g at 0)) (drop (suc at) g),
-          length-drop (suc at) g,
-          ap (λ (k : ℕ). extent p k (drop (at + 1 + w) g)) {x = n - (passed + 1)} {y = n - suc passed} (omega arith),
-          ap (λ (k : ℕ). extent p (n - suc passed) (drop (at + 1 + k) g)) e,
+          r.inside,
+          r.after,
+          size,
+          wide,
+          begins.1,
+          ap (λ (j : ℕ). extent p j rest) l,
+          extent_more p k rest (omega (arith, wide, begins.1)),
+          ap (λ (w : ℕ). extent p k (drop (suc w) rest)) wide,
+          ap (extent p k) begins.2,
         );
       }
-
--- ---- zeros
-pub zeros_more : (g : List ℕ) (at : ℕ) → at < length g
-    → alike (replicate (length g - at) 0) (drop at g) ≡ eqb 0 (get_or g at 0) && alike (replicate (length g - (at + 1)) 0) (drop (at + 1) g)
-unfolding alike
-zeros_more g at h =
-    ap₂ alike
-    (ap (λ (k : ℕ). replicate {A = ℕ} k 0) {x = length g - at} {y = suc (length g - (at + 1))} (omega arith))
-    (drop-cons g at 0 h ∙ ap (λ (k : ℕ). get_or g at 0 ∷ drop k g) {x = suc at} {y = at + 1} (omega arith))
-
-pub zeros_end : (g : List ℕ) (at : ℕ) → at ≡ length g → alike (replicate (length g - at) 0) (drop at g) ≡ true
-unfolding alike
-zeros_end g at h =
-    ap₂ alike (ap (λ (k : ℕ). replicate {A = ℕ} k 0) {x = length g - at} {y = 0} (omega arith)) (past_end g at (omega arith))

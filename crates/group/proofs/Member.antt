@@ -11,8 +11,8 @@ use borrow.Author.Tests.{leb-true, le-leb, lt-leb}
 use Rattle.model.specs.declared.Plan.{Plan}
 use Rattle.model.specs.Plans.{width}
 use Rattle.model.specs.Groups.{Write, write, last, padded, split, splits, member_count, given, remaining, writes, nth, write_at, is_last_write}
-use Rattle.model.specs.Refusals.{bad_write, ◌when◌, first}
-use Rattle.model.proofs.RefusalLaws.{and_true, or_false, first_stop, first_skip, first_none}
+use Rattle.model.specs.Refusals.{bad_write}
+use Rattle.model.proofs.RefusalLaws.{and_true, or_false}
 use Rattle.model.proofs.GroupLaws.{wide_of, count_splits}
 use Rattle.group.specs.declared.Part.{Part}
 use Rattle.group.specs.Parts.{extent, PartOf}
@@ -77,9 +77,6 @@ pub found_as : {p : Plan} {payload : List ℕ} {i j : ℕ} {r x : Part} → i �
 found_as {p} {payload} {i} {j} {r} {x} e f h =
     subst (λ (k : ℕ). PartOf p payload k r) (sym e) (subst (λ (y : Part). PartOf p payload j y) (sym f) h)
 
-abbrev pub a_part : ℕ → ℕ → Bool → Part
-a_part from unit t = record { from = from; unit = unit; last = t; number = 0 }
-
 -- ---- a payload is padded
 padded_full : (payload : List ℕ) → length payload ≡ 256 → padded payload ≡ payload
 padded_full payload e =
@@ -93,18 +90,6 @@ standing_full p payload full room e =
     given_standing p payload (omega (arith, full)) (omega (arith, full)) (ap (given p) (padded_full payload full) ∙ e)
 
 -- ---- no such write
-pub none_found : (p : Plan) (payload : List ℕ) (i : ℕ) → bad_write p payload i ≡ true
-    → PartOf p payload i (record { from = 0; unit = 0; last = false; number = 4 })
-none_found p payload i h =
-    record {
-      number = sym (first_stop 4 _ [] h);
-      unit = λ e. absurd (omega (arith, e));
-      from = omega arith;
-      bytes = λ e. absurd (omega (arith, e));
-      last = λ e. absurd (omega (arith, e));
-      few = λ e. absurd (omega (arith, e));
-    }
-
 pub no_record_lem : (p : Plan) (payload : List ℕ) (i : ℕ) → given p payload ≡ false → bad_write p payload i ≡ true
 unfolding bad_write
 no_record_lem p payload i e = go p.grouped (given p payload) (leb (length (writes p payload)) i) e
@@ -143,12 +128,10 @@ module _ (p : Plan) (payload : List ℕ) (full : length payload ≡ 256) (valid 
   writes_length =
       ap length writes_are ∙ omega (arith, length-append parts (zeroed ∷ []), split_length p count s.g s.rest exact)
 
-  is_write : (i : ℕ) → i < count + 2 → first (4 when bad_write p payload i ∷ []) ≡ 0
+  is_write : (i : ℕ) → i < count + 2 → bad_write p payload i ≡ false
   unfolding bad_write
   is_write i h =
-      first_skip 4 _ []
-      (or_false _ _ (ap not (wide_of p s.g s.wide).0) (or_false _ _ (ap not valid) (lt-leb _ i (omega (arith, writes_length)))))
-      ∙ first_none
+      or_false _ _ (ap not (wide_of p s.g s.wide).0) (or_false _ _ (ap not valid) (lt-leb _ i (omega (arith, writes_length))))
 
   pub past_last_lem : (i : ℕ) → count + 1 < i → bad_write p payload i ≡ true
   unfolding bad_write
@@ -164,17 +147,17 @@ module _ (p : Plan) (payload : List ℕ) (full : length payload ≡ 256) (valid 
   ends i t e = sym (ap (λ (n : ℕ). leb n (suc i)) writes_length ∙ e)
 
   -- the record, the zeros, a member
-  pub record_found : PartOf p payload 0 (record { from = 0; unit = last p; last = false; number = 0 })
+  pub record_found : PartOf p payload 0 (record { from = 0; unit = last p; last = false })
   unfolding write_at nth
   record_found =
       record {
-        number = sym (is_write 0 (omega arith));
-        unit = λ e. sym (ap (λ (xs : List Write). (nth xs 0).unit) writes_are);
+        good = is_write 0 (omega arith);
+        unit = sym (ap (λ (xs : List Write). (nth xs 0).unit) writes_are);
         from = omega arith;
-        bytes = λ e j h.
+        bytes = λ j h.
             sym (ap (λ (xs : List Write). get_or (nth xs 0).bytes j 0) writes_are ∙ get_or-take (width p (last p)) payload j 0 h);
-        last = λ e. ends 0 false (lt-leb (count + 2) 1 (omega arith));
-        few = λ e. omega arith;
+        last = ends 0 false (lt-leb (count + 2) 1 (omega arith));
+        few = omega arith;
       }
 
   nth_zeros : write_at p payload (suc count) ≡ zeroed
@@ -183,17 +166,17 @@ module _ (p : Plan) (payload : List ℕ) (full : length payload ≡ 256) (valid 
       ap (λ (xs : List Write). nth xs (suc count)) writes_are
       ∙ nth_end parts zeroed count (sym (split_length p count s.g s.rest exact))
 
-  pub zeros_found : PartOf p payload (suc count) (record { from = 256; unit = last p; last = true; number = 0 })
+  pub zeros_found : PartOf p payload (suc count) (record { from = 256; unit = last p; last = true })
   zeros_found =
       record {
-        number = sym (is_write (suc count) (omega arith));
-        unit = λ e. sym (ap (λ (x : Write). x.unit) nth_zeros);
+        good = is_write (suc count) (omega arith);
+        unit = sym (ap (λ (x : Write). x.unit) nth_zeros);
         from = omega arith;
-        bytes = λ e j h.
+        bytes = λ j h.
             ap (λ (xs : List ℕ). get_or xs j 0) (past_end payload 256 (omega (arith, full)))
             ∙ sym (ap (λ (x : Write). get_or x.bytes j 0) nth_zeros ∙ zero_at (width p (last p)) j);
-        last = λ e. ends (suc count) true (le-leb (count + 2) (suc (suc count)) (omega arith));
-        few = λ e. omega (arith, count_small p s.g);
+        last = ends (suc count) true (le-leb (count + 2) (suc (suc count)) (omega arith));
+        few = omega (arith, count_small p s.g);
       }
     where
       zero_at : (k i : ℕ) → get_or {A = ℕ} (replicate k 0) i 0 ≡ 0
@@ -230,18 +213,18 @@ module _ (p : Plan) (payload : List ℕ) (full : length payload ≡ 256) (valid 
           ∙ ap (λ (k : ℕ). get_or (count ∷ (s.g ++ s.rest)) k 0) {x = 1 + q} {y = suc reached} (omega (arith, is_reached))
           ∙ sym (ap (λ (x : Write). x.unit) member_is.0)
 
-      pub member_found : PartOf p payload i (record { from = 1 + q + 1; unit = get_or payload (1 + q) 0; last = false; number = 0 })
+      pub member_found : PartOf p payload i (record { from = 1 + q + 1; unit = get_or payload (1 + q) 0; last = false })
       member_found =
           record {
-            number = sym (is_write i (omega arith));
-            unit = λ z. unit_is;
+            good = is_write i (omega arith);
+            unit = unit_is;
             from = member_inside;
-            bytes = λ z j h.
+            bytes = λ j h.
                 ap₂ (λ (l : List ℕ) (k : ℕ). get_or (drop (1 + k + 1) l) j 0) s.is is_reached
                 ∙ ap (λ (k : ℕ). get_or (drop k (count ∷ (s.g ++ s.rest))) j 0) {x = 1 + reached + 1} {y = suc (suc reached)} (omega arith)
                 ∙ sym (ap (λ (x : Write). get_or x.bytes j 0) member_is.0
                 ∙ get_or-take (width p (get_or (s.g ++ s.rest) reached 0)) (drop (suc reached) (s.g ++ s.rest)) j 0
                 (omega (arith, h, ap (width p) (unit_is ∙ ap (λ (x : Write). x.unit) member_is.0))));
-            last = λ z. ends i false (lt-leb (count + 2) (suc i) (omega arith));
-            few = λ z. omega (arith, high, count_small p s.g);
+            last = ends i false (lt-leb (count + 2) (suc i) (omega arith));
+            few = omega (arith, high, count_small p s.g);
           }

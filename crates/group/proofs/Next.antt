@@ -2,7 +2,7 @@
 use Prim.Native.Nat.{ℕ, zero, suc, ◌+◌, ◌<◌}
 use mathlib.Core.Path.{◌≡◌, refl, ap, ap₂, sym, ◌∙◌, subst}
 use mathlib.Core.List.{List, [], ◌∷◌, ◌++◌}
-use mathlib.Core.Bool.{Bool, true, false}
+use mathlib.Core.Bool.{false}
 use native.Mathlib.Omega.{arith}
 use lib.ListN.{get_or, drop}
 use borrow.Author.Tests.{leb-false}
@@ -11,9 +11,9 @@ use Rattle.model.specs.Marker.{OK, B, A}
 use Rattle.model.specs.Plans.{width}
 use Rattle.model.specs.Layout.{Copy, copy_a, copy_b, marker, byte}
 use Rattle.model.specs.Groups.{write_at}
-use Rattle.model.specs.Refusals.{grouping, write_total, bad_write, bad_job, ◌when◌, first}
+use Rattle.model.specs.Refusals.{grouping, write_total, bad_write, bad_job}
 use Rattle.model.specs.Stores.{Store, store, copying, write_stores}
-use Rattle.model.proofs.RefusalLaws.{PlanOk, false_or, first_skip, first_none}
+use Rattle.model.proofs.RefusalLaws.{PlanOk, false_or}
 use Rattle.model.proofs.GroupLaws.{part_sized}
 use Rattle.group.specs.declared.Part.{Part}
 use Rattle.group.specs.Parts.{PartOf}
@@ -35,36 +35,21 @@ stores_same p u xs ys h =
     (copying_same u copy_b _ _ (width p u) 0 (λ j l. h j (omega (arith, l))))
 
 module _ {p : Plan} {payload : List ℕ} {i : ℕ} {r : Part} (found : PartOf p payload i r) where
-  pub part_stores : r.number ≡ 0
-      → write_stores p r.unit (drop r.from payload) ≡ write_stores p (write_at p payload i).unit (write_at p payload i).bytes
-  part_stores z =
-      stores_same p r.unit (drop r.from payload) (write_at p payload i).bytes (found.bytes z)
-      ∙ ap (λ (u : ℕ). write_stores p u (write_at p payload i).bytes) (found.unit z)
+  pub part_stores : write_stores p r.unit (drop r.from payload) ≡ write_stores p (write_at p payload i).unit (write_at p payload i).bytes
+  part_stores =
+      stores_same p r.unit (drop r.from payload) (write_at p payload i).bytes found.bytes
+      ∙ ap (λ (u : ℕ). write_stores p u (write_at p payload i).bytes) found.unit
 
-  pub part_good : r.number ≡ 0 → bad_write p payload i ≡ false
-  unfolding first
-  part_good z = go (bad_write p payload i) refl
-    where
-      go : (t : Bool) → bad_write p payload i ≡ t → bad_write p payload i ≡ false
-      go true e = absurd (omega (arith, z, found.number ∙ ap (λ (x : Bool). first (4 when x ∷ [])) e))
-      go false e = e
+  pub part_there : PlanOk p → r.unit < p.count
+  part_there ok = subst (λ (u : ℕ). u < p.count) (sym found.unit) (part_sized p ok payload i found.good).unit
 
-  pub part_there : PlanOk p → r.number ≡ 0 → r.unit < p.count
-  part_there ok z = subst (λ (u : ℕ). u < p.count) (sym (found.unit z)) (part_sized p ok payload i (part_good z)).unit
+  pub part_made : (made : ℕ) → bad_job p payload (grouping i made) ≡ false → made < write_total (width p r.unit)
+  unfolding bad_job
+  part_made made fine =
+      subst (λ (u : ℕ). made < write_total (width p u)) (sym found.unit)
+      (leb-false (write_total (width p (write_at p payload i).unit)) made (false_or (bad_write p payload i) _ fine).1)
 
-  module _ (ok : PlanOk p) (made : ℕ) (fine : bad_job p payload (grouping i made) ≡ false) where
-    good : bad_write p payload i ≡ false
-    unfolding bad_job
-    good = (false_or (bad_write p payload i) _ fine).0
-
-    pub part_none : r.number ≡ 0
-    part_none = found.number ∙ first_skip 4 _ [] good ∙ first_none
-
-    pub part_unit : r.unit < p.count
-    part_unit = part_there ok part_none
-
-    pub part_made : made < write_total (width p r.unit)
-    unfolding bad_job
-    part_made =
-        subst (λ (u : ℕ). made < write_total (width p u)) (sym (found.unit part_none))
-        (leb-false (write_total (width p (write_at p payload i).unit)) made (false_or (bad_write p payload i) _ fine).1)
+-- of a job that is not refused there is a write
+pub good_write : (p : Plan) (payload : List ℕ) (i made : ℕ) → bad_job p payload (grouping i made) ≡ false → bad_write p payload i ≡ false
+unfolding bad_job
+good_write p payload i made fine = (false_or (bad_write p payload i) _ fine).0

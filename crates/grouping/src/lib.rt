@@ -1,62 +1,38 @@
 // What refuses a group.
 #![tactic(auto)]
 
-ghost use Rattle.std.specs.Prelude.{◌≡◌, true, ℕ, ◌≤◌, length};
-ghost use Rattle.model.specs.Layout.{marker, total, get};
-ghost use Rattle.model.specs.Groups.{split, splits};
-ghost use Rattle.model.specs.Refusals.{dirty, group_number};
-ghost use Rattle.model.specs.Calls.{view_of};
+ghost use Rattle.std.specs.Prelude.{◌≡◌, [], ◌∷◌, false, ◌≤◌, length};
+ghost use Rattle.model.specs.Numbers.{numbered};
+ghost use Rattle.model.specs.Layout.{total};
+ghost use Rattle.model.specs.Groups.{members, unsplit};
+ghost use Rattle.model.specs.Refusals.{◌when◌, first, dirty, group_number};
 ghost use Rattle.model.proofs.RefusalLaws.{PlanOk};
+ghost use Rattle.refusal.specs.Seen.{seen};
 
-use group::{group_fault, last_of};
-use layout::width_of;
-use model::refusals::BAD_MARKER;
-use model::{Phase, Plan};
-use refusal::{marker_number, ready_number};
+use group::{first_member, last_of};
+use model::refusals::Refusal;
+use refusal::View;
 
-// Whether a member's marker isn't OK, of the members that the bytes are.
-fn any_dirty(plan: Plan, image: &[u8], bytes: &[u8]) -> bool
-    requires { PlanOk plan × (total plan ≤ length image.now) }
-    ensures { (n : ℕ) → splits plan n bytes.now ≡ true
-        → result ≡ dirty (λ u. get plan image.now u marker) (split plan n bytes.now) }
+// 8, if a member's marker isn't OK, of the members that the bytes are.
+fn check_members(view: View, bytes: &[u8]) -> Result<(), Refusal>
+    requires { PlanOk view.plan × (total view.plan ≤ length view.image.now) × (unsplit view.plan bytes.now ≡ false) }
+    ensures { numbered result ≡ first (8 when dirty (seen view.entry).marker (members view.entry.plan bytes.now) ∷ []) }
 {
-    let size = bytes.len();
-    let mut at: usize = 0;
-    while at < size {
-        let unit = bytes[at] as u16;
-        if plan.count <= unit {
-            return false;
-        }
-        if marker_number(plan, image, unit) != 0 {
-            return true;
-        }
-        let width = width_of(plan, unit) as usize;
-        if size - at <= width {
-            return false;
-        }
-        at = at + 1 + width;
+    let mut rest = bytes;
+    while let Some((unit, behind)) = first_member(view.plan, rest) {
+        view.check_marker(unit)?;
+        rest = behind;
     }
-    false
+    Ok(())
 }
 
-// Refusals 1 to 5, 19 to 21 and 8 of a group, in this order; `held` is the payload that the device has.
-pub fn group_number(plan: Plan, held: &[u8; 256], phase: Phase, image: &[u8], bytes: &[u8]) -> u16
-    ensures { result ≡ group_number (view_of plan held.now phase image.now) bytes.now }
+// Refusals 1 to 5, 19 to 21 and 8 of a group, in this order.
+#[tactic(auto, using(refusal::proofs::Laws::rows, crate::proofs::Laws::row_of_group), unfolding(model::specs::Refusals::first))]
+pub fn check_group(view: View, bytes: &[u8]) -> Result<(), Refusal>
+    ensures { numbered result ≡ group_number (seen view.entry) bytes.now }
 {
-    let number = ready_number(plan, held, phase, image.len());
-    if number != 0 {
-        return number;
-    }
-    let fault = group_fault(plan, bytes);
-    if fault != 0 {
-        return fault;
-    }
-    let record = marker_number(plan, image, last_of(plan));
-    if record != 0 {
-        return record;
-    }
-    if any_dirty(plan, image, bytes) {
-        return BAD_MARKER;
-    }
-    0
+    view.check_ready()?;
+    group::check_group(view.plan, bytes)?;
+    view.check_marker(last_of(view.plan))?;
+    check_members(view, bytes)
 }

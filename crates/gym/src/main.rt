@@ -4,20 +4,12 @@
 #![tactic(auto)]
 
 use model::{NOTHING, Plan, Rights, Role, SEE, SEE_AND_WRITE};
+use rights::service_plan;
 use std::io;
 use std::io::Write;
-use store::Device;
+use store::{Device, number_of};
 
-fn word<W: Write>(out: &mut W, text: &[u8]) -> io::Result<()> {
-    out.write_all(text)
-}
-
-fn number<W: Write>(out: &mut W, name: &[u8], n: u64) -> io::Result<()> {
-    word(out, name)?;
-    write!(out, "{n}")
-}
-
-// A byte a unit. The bytes past the plan's units are not looked at.
+// A byte a unit. The bytes past the plan's units are not looked at. README shows this table as it stands.
 fn gym_rights() -> Rights {
     Rights {
         rider: [
@@ -40,18 +32,15 @@ fn gym_rights() -> Rights {
 // A formatted device with some takings.
 fn opened(image: &mut [u8]) -> Device {
     let plan = Plan {
-        count: 3,
-        widths: [8, 8, 1, 0, 0, 0, 0, 0],
-        page: 1,
-        grouped: false,
         rights: gym_rights(),
+        ..service_plan(&[8, 8, 1], 1, false)
     };
     let started = Device::start(plan);
-    let formatted = started.device.format(&mut image[..]);
+    let formatted = started.device.format(image);
     let begun = formatted
         .device
-        .begin(&image[..], Role::Service, 1, b"\x2c\x01\0\0\0\0\0\0");
-    let saved = begun.device.steps(&mut image[..], 19);
+        .begin(image, Role::Service, 1, &300u64.to_le_bytes());
+    let saved = begun.device.steps(image, 19);
     saved.device
 }
 
@@ -64,45 +53,40 @@ fn ask<W: Write>(
     unit: u16,
     payload: &[u8],
 ) -> io::Result<()> {
-    number(out, b" read ", device.read_number(image, role, unit) as u64)?;
-    let total = device.total(image, role, unit);
-    number(out, b", total ", total.number as u64)?;
-    number(out, b" shows ", total.amount)?;
-    let begun = device.begin(image, role, unit, payload);
-    number(out, b", begin ", begun.number as u64)?;
-    word(out, b"\n")
-}
-
-fn ask_all<W: Write>(
-    out: &mut W,
-    device: Device,
-    image: &[u8],
-    role: Role,
-    name: &[u8],
-) -> io::Result<()> {
-    word(out, name)?;
-    word(out, b" turns:  ")?;
-    ask(out, device, image, role, 0, b"01234567")?;
-    word(out, name)?;
-    word(out, b" takings:")?;
-    ask(out, device, image, role, 1, b"01234567")?;
-    word(out, name)?;
-    word(out, b" limits: ")?;
-    ask(out, device, image, role, 2, b"9")
+    let read = number_of(device.check_read(image, role, unit));
+    let (total, amount) = match device.total(image, role, unit) {
+        Ok(amount) => (0, amount),
+        Err(refusal) => (refusal.number(), 0),
+    };
+    let begin = device.begin(image, role, unit, payload).number;
+    writeln!(
+        out,
+        " read {read}, total {total} shows {amount}, begin {begin}"
+    )
 }
 
 fn ask_roles<W: Write>(out: &mut W, device: Device, image: &[u8]) -> io::Result<()> {
-    ask_all(out, device, image, Role::Rider, b"rider  ")?;
-    ask_all(out, device, image, Role::Gym, b"gym    ")?;
-    ask_all(out, device, image, Role::Service, b"service")
+    for (role, name) in [
+        (Role::Rider, "rider"),
+        (Role::Gym, "gym"),
+        (Role::Service, "service"),
+    ] {
+        write!(out, "{name:<7} turns:  ")?;
+        ask(out, device, image, role, 0, b"01234567")?;
+        write!(out, "{name:<7} takings:")?;
+        ask(out, device, image, role, 1, b"01234567")?;
+        write!(out, "{name:<7} limits: ")?;
+        ask(out, device, image, role, 2, b"9")?;
+    }
+    Ok(())
 }
 
 fn main(rt: HostRuntime) -> io::Result<()> {
     let mut out = io::writer(&rt);
-    let mut image = [0u8; 37];
+    let mut image = [0; 37];
     let device = opened(&mut image);
     ask_roles(&mut out, device, &image)?;
-    word(&mut out, b"torn:\n")?;
+    writeln!(out, "torn:")?;
     image[17] = 2;
     image[34] = 2;
     ask_roles(&mut out, device, &image)

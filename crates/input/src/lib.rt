@@ -15,13 +15,14 @@ pub fn read_full<R: io::Read>(from: &mut R, room: &mut [u8]) -> io::Result<usize
     ensures end { IfOk result (λ count. count < length room.new → IsAtEnd (R.remaining from.new)) }
     ensures size { length room.new ≡ length room.old }
 {
-    let mut count: usize = 0;
+    let mut count = 0;
+    // No `for` counts this: each read fills as much as it will.
     while count < room.len() {
         let more = from.read(&mut room[count..])?;
         if more == 0 {
             return Ok(count);
         }
-        count = count + more;
+        count += more;
     }
     Ok(count)
 }

@@ -16,8 +16,6 @@ use Rattle.model.specs.Layout.{width, whole_pages, base, unit_length}
 use Rattle.model.specs.Refusals.{bad_count, bad_widths, bad_page, start_number}
 use Rattle.model.proofs.Compare.{below, above, order}
 use Rattle.model.proofs.RefusalLaws.{first_skip, first_stop, false_or, page_fits}
-use Rattle.layout.specs.declared.Measured.{Measured}
-use Rattle.layout.specs.Measures.{Measures}
 
 or-true : (x y : Bool) → y ≡ true → x || y ≡ true
 or-true true y e = refl
@@ -161,11 +159,6 @@ module _ (p : Plan) where
   pub plan_seventeen : bad_count p ≡ false → bad_widths p.widths p.count ≡ false → bad_page p.page ≡ true → 17 ≡ start_number p
   unfolding start_number
   plan_seventeen h e b = sym (first_skip 1 _ _ h ∙ first_skip 2 _ _ e ∙ first_stop 17 _ _ b)
-
-  -- a plan that is refused is promised no length
-  pub unmeasured : (u : ℕ) (r : Measured) (k : ℕ) → r.number ≡ suc k → suc k ≡ start_number p → Measures p u r
-  unmeasured u r k e is =
-      record { number = e ∙ is; total = λ z. absurd (omega arith); page = λ z. absurd (omega arith); base = λ z h. absurd (omega arith) }
 
   pub base_more : (u : ℕ) → base p (u + 1) ≡ base p u + unit_length p u
   unfolding base

@@ -1,12 +1,12 @@
--- A plan measured: what the refusals of a plan, 1, 2 and 17, leave to be asked of it.
+-- A plan measured, that is not refused.
 use Rattle.std.specs.Prelude.{ℕ, ◌<◌, ◌≡◌}
 use Rattle.layout.specs.declared.Measured.{Measured}
 use Rattle.model.specs.declared.Plan.{Plan}
 use Rattle.model.specs.Layout.{base, total}
 use Rattle.model.specs.Refusals.{start_number}
 
-pub record Measures (p : Plan) (u : ℕ) (r : Measured) : Type 0 where
-  pub number : r.number ≡ start_number p
-  pub total : r.number ≡ 0 → r.total ≡ total p
-  pub page : r.number ≡ 0 → r.page ≡ p.page
-  pub base : r.number ≡ 0 → u < p.count → r.base ≡ base p u
+pub record Measures (p : Plan) (u : ℕ) (m : Measured) : Type 0 where
+  pub fine : start_number p ≡ 0
+  pub total : m.total ≡ total p
+  pub page : m.page ≡ p.page
+  pub base : u < p.count → m.base ≡ base p u

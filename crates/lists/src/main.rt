@@ -8,118 +8,118 @@
 // The lists of this crate are random ones (simulator/lists.py), and the expected output is a simulator's, by other hands.
 #![tactic(auto)]
 
-ghost use Rattle.std.specs.Prelude.{◌≡◌, ◌≤◌, length};
+ghost use Rattle.std.specs.Prelude.{◌+◌, ◌<◌, ◌≤◌};
 
 use input::read_full;
-use model::{Direction, Phase, Plan, Rights, Role};
-use replay::{call, number_at};
-use std::io;
+use model::{Phase, Plan, Rights, Role};
+use replay::call;
+use replay::entry::{Entries, Entry, Kind};
 use std::io::Write;
-use store::Device;
+use std::{array, fmt, io};
+use store::{Device, number_of};
 
-fn word<W: Write>(out: &mut W, text: &[u8]) -> io::Result<()> {
-    out.write_all(text)
+// What stands before a list's calls: the plan, and the lengths of the image and of the calls.
+#[derive(Drop)]
+struct Head {
+    plan: Plan,
+    image: u16,
+    calls: u16,
 }
 
-fn number<W: Write>(out: &mut W, n: u32) -> io::Result<()> {
-    write!(out, " {n}")
-}
-
-fn kind_word<W: Write>(out: &mut W, kind: u8) -> io::Result<()> {
-    if (kind == 1) | (kind == 8) | (kind == 9) {
-        return word(out, b"begin");
-    }
-    if kind == 2 {
-        return word(out, b"cut");
-    }
-    if kind == 3 {
-        return word(out, b"wake");
-    }
-    if kind == 4 {
-        return word(out, b"ride");
-    }
-    if kind == 5 {
-        return word(out, b"group");
-    }
-    if kind == 10 {
-        return word(out, b"paid");
-    }
-    word(out, b"step")
-}
-
-fn way<W: Write>(out: &mut W, direction: Direction) -> io::Result<()> {
-    match direction {
-        Direction::AToB => word(out, b" AToB"),
-        Direction::BToA => word(out, b" BToA"),
-    }
-}
-
-fn job<W: Write>(out: &mut W, name: &[u8], at: u16, made: u16) -> io::Result<()> {
-    word(out, name)?;
-    number(out, at as u32)?;
-    number(out, made as u32)
-}
-
-fn phase_words<W: Write>(out: &mut W, phase: Phase) -> io::Result<()> {
-    match phase {
-        Phase::Cold => word(out, b" Cold"),
-        Phase::Ready => word(out, b" Ready"),
-        Phase::Writing { unit, made } => job(out, b" Writing", unit, made),
-        Phase::Recovering {
-            unit,
-            made,
-            direction,
-        } => {
-            job(out, b" Recovering", unit, made)?;
-            way(out, direction)
-        }
-        Phase::Grouping { write, made } => job(out, b" Grouping", write, made),
-    }
-}
-
-fn digit(n: u8) -> u8
-    requires { n ≤ 15 }
+// The number at a place, the high byte first.
+fn number_at(bytes: &[u8; 47], at: usize) -> u16
+    requires { at + 1 < 47 }
 {
-    if n < 10 { b'0' + n } else { b'a' + (n - 10) }
+    u16::from_be_bytes([bytes[at], bytes[at + 1]])
+}
+
+fn rights_at(bytes: &[u8; 47], from: usize) -> [u8; 8]
+    requires { from ≤ 39 }
+{
+    array::from_fn(|unit| bytes[from + unit])
+}
+
+impl From<&[u8; 47]> for Head {
+    fn from(bytes: &[u8; 47]) -> Head {
+        let plan = Plan {
+            count: bytes[0].into(),
+            widths: array::from_fn(|unit| number_at(bytes, 1 + 2 * unit)),
+            page: bytes[17].into(),
+            grouped: bytes[18] != 0,
+            rights: Rights {
+                rider: rights_at(bytes, 19),
+                gym: rights_at(bytes, 27),
+                service: rights_at(bytes, 35),
+            },
+        };
+        Head {
+            plan,
+            image: number_at(bytes, 43),
+            calls: number_at(bytes, 45),
+        }
+    }
+}
+
+// A phase as the lists print it.
+#[derive(Drop)]
+struct Shown(Phase);
+
+impl fmt::Display for Shown {
+    fn fmt<W: fmt::Write>(&self, f: &mut fmt::Formatter<W>) -> fmt::Result {
+        match self.0 {
+            Phase::Cold => write!(f, "Cold"),
+            Phase::Ready => write!(f, "Ready"),
+            Phase::Writing { unit, made } => write!(f, "Writing {unit} {made}"),
+            Phase::Recovering {
+                unit,
+                made,
+                direction,
+            } => write!(f, "Recovering {unit} {made} {direction:?}"),
+            Phase::Grouping { write, made } => write!(f, "Grouping {write} {made}"),
+        }
+    }
+}
+
+fn word(kind: Kind) -> &'static str {
+    match kind {
+        Kind::Begin(_) => "begin",
+        Kind::Cut => "cut",
+        Kind::Wake => "wake",
+        Kind::Ride => "ride",
+        Kind::Group => "group",
+        Kind::PaidRide => "paid",
+        Kind::Step => "step",
+    }
 }
 
 // Bytes, each after a space, to the end of a line.
-fn rest_of_line<W: Write>(out: &mut W, bytes: &[u8]) -> io::Result<()> {
-    let mut at: usize = 0;
-    while at < bytes.len() {
-        let byte = bytes[at];
-        word(out, &[b' ', digit(byte / 16 % 16), digit(byte % 16)])?;
-        at = at + 1;
+fn say_bytes<W: Write>(out: &mut W, bytes: &[u8]) -> io::Result<()> {
+    for byte in bytes {
+        write!(out, " {byte:02x}")?;
     }
-    word(out, b"\n")
+    writeln!(out)
 }
 
-// A line of bytes.
-fn bytes_line<W: Write>(out: &mut W, name: &[u8], bytes: &[u8]) -> io::Result<()> {
-    word(out, name)?;
-    rest_of_line(out, bytes)
+// Who asks, if a kind is a read's.
+fn reader_of(kind: u8) -> Option<Role> {
+    match kind {
+        16 => Some(Role::Service),
+        17 => Some(Role::Rider),
+        18 => Some(Role::Gym),
+        _ => None,
+    }
 }
 
-fn read_line<W: Write>(
+fn say_read<W: Write>(
     out: &mut W,
     device: Device,
     image: &[u8],
     role: Role,
     unit: u16,
 ) -> io::Result<()> {
-    word(out, b"read")?;
-    number(out, device.read_number(image, role, unit) as u32)?;
-    rest_of_line(out, device.read(image, role, unit))
-}
-
-fn reader_of(kind: u8) -> Role {
-    if kind == 17 {
-        return Role::Rider;
-    }
-    if kind == 18 {
-        return Role::Gym;
-    }
-    Role::Service
+    let number = number_of(device.check_read(image, role, unit));
+    write!(out, "read {number}")?;
+    say_bytes(out, device.read(image, role, unit))
 }
 
 // One call, and what it came to.
@@ -127,154 +127,66 @@ fn called<W: Write>(
     out: &mut W,
     device: Device,
     image: &mut [u8],
-    kind: u8,
-    unit: u16,
-    own: &[u8],
+    entry: Entry,
 ) -> io::Result<Device> {
-    let after = call(device, image, kind, unit, own);
-    let next = after.device;
-    kind_word(out, kind)?;
-    number(out, after.number as u32)?;
-    let phase = next.phase;
-    phase_words(out, phase)?;
-    number(out, next.stores)?;
-    word(out, b"\n")?;
-    Ok(next)
+    let word = word(Kind::from(entry.kind));
+    let after = call(device, image, entry);
+    let phase = Shown(after.device.phase);
+    writeln!(
+        out,
+        "{word} {} {phase} {}",
+        after.number, after.device.stores
+    )?;
+    Ok(after.device)
 }
 
-// A call, or a read, which leaves the device as it is.
-fn played<W: Write>(
-    out: &mut W,
-    device: Device,
-    image: &mut [u8],
-    kind: u8,
-    unit: u16,
-    own: &[u8],
-) -> io::Result<Device> {
-    if (16 <= kind) & (kind <= 18) {
-        read_line(out, device, &image[..], reader_of(kind), unit)?;
-        return Ok(device);
-    }
-    called(out, device, &mut image[..], kind, unit, own)
-}
-
+// The calls, and reads, which leave the device as it is.
 fn play<W: Write>(
     out: &mut W,
-    first: Device,
+    formatted: Device,
     image: &mut [u8],
     calls: &[u8],
 ) -> io::Result<Device> {
-    let mut device = first;
-    let mut at: usize = 0;
-    while 5 <= calls.len() - at {
-        let unit = number_at(calls, at + 1);
-        let size = number_at(calls, at + 3) as usize;
-        let from = at + 5;
-        if calls.len() - from < size {
-            return Ok(device);
+    let mut device = formatted;
+    for entry in (Entries { bytes: calls }) {
+        match reader_of(entry.kind) {
+            Some(role) => say_read(out, device, image, role, entry.unit)?,
+            None => device = called(out, device, image, entry)?,
         }
-        let end = from + size;
-        device = played(
-            out,
-            device,
-            &mut image[..],
-            calls[at],
-            unit,
-            &calls[from..end],
-        )?;
-        at = end;
     }
     Ok(device)
 }
 
-fn wide(byte: u8) -> u16 {
-    byte as u16
+fn list<W: Write>(out: &mut W, plan: Plan, image: &mut [u8], calls: &[u8]) -> io::Result<()> {
+    let started = Device::start(plan);
+    writeln!(out, "start {}", started.number)?;
+    let formatted = started.device.format(image);
+    writeln!(out, "format {}", formatted.number)?;
+    let last = play(out, formatted.device, image, calls)?;
+    write!(out, "image")?;
+    say_bytes(out, image)?;
+    write!(out, "payload")?;
+    say_bytes(out, &last.payload)
 }
 
-fn widths_of(head: &[u8]) -> [u16; 8]
-    requires { length head.now ≡ 47 }
-{
-    let mut widths = [0u16; 8];
-    let mut at: usize = 0;
-    while at < 8 {
-        widths[at] = number_at(head, 1 + 2 * at);
-        at = at + 1;
-    }
-    widths
-}
-
-fn rights_at(head: &[u8], from: usize) -> [u8; 8]
-    requires { (length head.now ≡ 47) × (from ≤ 39) }
-{
-    let mut line = [0u8; 8];
-    let mut at: usize = 0;
-    while at < 8 {
-        line[at] = head[from + at];
-        at = at + 1;
-    }
-    line
-}
-
-fn plan_of(head: &[u8]) -> Plan
-    requires { length head.now ≡ 47 }
-{
-    let rights = Rights {
-        rider: rights_at(head, 19),
-        gym: rights_at(head, 27),
-        service: rights_at(head, 35),
-    };
-    Plan {
-        count: wide(head[0]),
-        widths: widths_of(head),
-        page: wide(head[17]),
-        grouped: head[18] != 0,
-        rights: rights,
-    }
-}
-
-fn list<W: Write>(out: &mut W, head: &[u8], image: &mut [u8], calls: &[u8]) -> io::Result<()>
-    requires { length head.now ≡ 47 }
-{
-    let started = Device::start(plan_of(head));
-    word(out, b"start")?;
-    number(out, started.number as u32)?;
-    let formatted = started.device.format(&mut image[..]);
-    word(out, b"\nformat")?;
-    number(out, formatted.number as u32)?;
-    word(out, b"\n")?;
-    let last = play(out, formatted.device, &mut image[..], calls)?;
-    bytes_line(out, b"image", &image[..])?;
-    let payload = last.payload;
-    bytes_line(out, b"payload", &payload)
-}
-
-fn over_image<W: Write>(out: &mut W, head: &[u8], calls: &[u8]) -> io::Result<()>
-    requires { length head.now ≡ 47 }
-{
-    let mut image = [0x77u8; 65536];
-    let size = number_at(head, 43) as usize;
-    list(out, head, &mut image[..size], calls)
-}
-
-// The lists in a text, one after the other.
+// The lists in a text, one after the other. Bytes at its end that are too few for one are none.
 fn lists<W: Write>(out: &mut W, text: &[u8]) -> io::Result<()> {
-    let count = text.len();
-    let mut at: usize = 0;
-    while 47 <= count - at {
-        let calls = at + 47;
-        let size = number_at(text, at + 45) as usize;
-        if count - calls < size {
+    let mut left = text;
+    // No `for`: a list's head tells how long it is, and so where the next begins.
+    while let Some((head, more)) = left.split_first_chunk::<47>() {
+        let head = Head::from(head);
+        let Some((calls, more)) = more.split_at_checked(usize::from(head.calls)) else {
             return Ok(());
-        }
-        let end = calls + size;
-        over_image(out, &text[at..calls], &text[calls..end])?;
-        at = end;
+        };
+        let mut image = [0x77; 65536];
+        list(out, head.plan, &mut image[..usize::from(head.image)], calls)?;
+        left = more;
     }
     Ok(())
 }
 
 fn main(rt: HostRuntime) -> io::Result<()> {
-    let mut text = [0u8; 65536];
+    let mut text = [0; 65536];
     let count = read_full(&mut rt.reader(), &mut text)?;
     lists(&mut io::writer(&rt), &text[..count])
 }

@@ -15,13 +15,16 @@ use Rattle.model.specs.Layout.{copy_a, copy_b, byte, width, unit_length, offset,
 use Rattle.model.specs.Groups.{write_at}
 use Rattle.model.specs.Calls.{job_of, view_of}
 use Rattle.model.specs.Refusals.{grouping, SHORT-IMAGE, BAD-JOB, bad_write, bad_job, ◌when◌, first, start_number}
-use Rattle.model.proofs.Compare.{equal, differ, same}
 use Rattle.model.proofs.LayoutLaws.{copy_room, base_bound}
 use Rattle.model.proofs.RefusalLaws.{first_skip, first_stop, first_none, first_refused, plan_passed, PlanOk, page_some, page_fits, past, start_says, start_fine, count_bounds, width_bounds}
 use Rattle.model.specs.Plans.{PageSize}
 use Rattle.group.specs.declared.Part.{Part}
 use Rattle.group.specs.Parts.{PartOf}
-use Rattle.group.proofs.Next.{part_good}
+use Rattle.std.specs.Prelude.{Result, Ok, Err, MatchResult}
+use Rattle.std.specs.Result.{IsOk}
+use Rattle.model.specs.declared.refusals.Refusal.{Refusal}
+use Rattle.model.specs.Numbers.{number_of}
+use Rattle.model.proofs.Numbered.{number_some}
 use Rattle.layout.proofs.Laws.{size_bounds, rounded_most}
 use Rattle.lookup.specs.declared.Span.{Span}
 use Rattle.lookup.specs.Spans.{image_row, Live, span_of, job_row, Spans, Sound}
@@ -38,10 +41,10 @@ module _ (p : Plan) where
   base_small ok zero h = omega arith
   base_small ok (suc u) h = omega (arith, base_small ok u (omega arith), unit_small ok u (omega arith))
 
--- where plan and image are fine, refusal 4 is left: n is measure's number, b its total, k what is said of the job
-module _ (p : Plan) (payload : List ℕ) (phase : Phase) (length n b : ℕ) (e : n ≡ start_number p) (z : n ≡ 0) (t : b ≡ total p) (l : b ≤ length) where
+-- where plan and image are fine, refusal 4 is left: b is the total that was measured, k what is said of the job
+module _ (p : Plan) (payload : List ℕ) (phase : Phase) (length b : ℕ) (fine : start_number p ≡ 0) (t : b ≡ total p) (l : b ≤ length) where
   before_job : first (image_row p payload phase length) ≡ first (4 when bad_job p payload (job_of phase) ∷ [])
-  before_job = plan_passed p _ (sym e ∙ z) ∙ first_skip 3 _ _ (le-ltb length (total p) (rw t at l))
+  before_job = plan_passed p _ fine ∙ first_skip 3 _ _ (le-ltb length (total p) (rw t at l))
 
   pub no_job : bad_job p payload (job_of phase) ≡ false → 0 ≡ first (image_row p payload phase length)
   no_job h = sym (before_job ∙ first_skip 4 _ [] h ∙ first_none)
@@ -61,80 +64,56 @@ module _ (p : Plan) (payload : List ℕ) (phase : Phase) (length n b : ℕ) (e :
       → k ≡ first (image_row p payload phase length)
   grouping_job i made k is ek = ek ∙ sym (before_job ∙ rw is)
 
--- a write of a group that 4 may refuse for its stores: r is what was found, k the answer
+-- a write of a group that there is not
+pub no_part : (p : Plan) (payload : List ℕ) (i made : ℕ) (e : Refusal) → number_of e ≡ first (4 when bad_write p payload i ∷ [])
+    → number_of e ≡ first (4 when bad_job p payload (grouping i made) ∷ [])
+unfolding bad_job first
+no_part p payload i made e is = go (bad_write p payload i) refl
+  where
+    go : (t : Bool) → bad_write p payload i ≡ t → number_of e ≡ first (4 when bad_job p payload (grouping i made) ∷ [])
+    go true h = is ∙ rw h
+    go false h = absurd (number_some e (is ∙ rw h))
+
+-- a write of a group that 4 may refuse for its stores: r is what was found
 module _ {p : Plan} {payload : List ℕ} {i : ℕ} {r : Part} (found : PartOf p payload i r) (made : ℕ) where
   abbrev at_job : ℕ
   at_job = first (4 when bad_job p payload (grouping i made) ∷ [])
 
-  job_is : (t : Bool) → bad_write p payload i ≡ t → r.number ≡ first (4 when t ∷ [])
-  job_is t e = found.number ∙ ap (λ (x : Bool). first (4 when x ∷ [])) e
-
-  pub no_part : ¬ (r.number ≡ 0) → r.number ≡ at_job
-  unfolding bad_job first
-  no_part h = go (bad_write p payload i) refl
-    where
-      go : (t : Bool) → bad_write p payload i ≡ t → r.number ≡ at_job
-      go true e = job_is true e ∙ sym (rw e)
-      go false e = absurd (h (job_is false e))
-
-  module _ (w : ℕ) (z : r.number ≡ 0) (ew : w ≡ width p r.unit) where
-    good : bad_write p payload i ≡ false
-    good = part_good found z
-
+  module _ (w : ℕ) (ew : w ≡ width p r.unit) where
     wide : width p (write_at p payload i).unit ≡ w
-    wide = ap (width p) (sym (found.unit z)) ∙ sym ew
+    wide = ap (width p) (sym found.unit) ∙ sym ew
 
     pub all_made_lem : 2 * w + 3 ≤ made → 4 ≡ at_job
     unfolding bad_job
-    all_made_lem h = sym (first_stop 4 _ [] (rw (good, wide) (le-leb (2 * w + 3) made h)))
+    all_made_lem h = sym (first_stop 4 _ [] (rw (found.good, wide) (le-leb (2 * w + 3) made h)))
 
     pub not_made : made < 2 * w + 3 → 0 ≡ at_job
     unfolding bad_job
-    not_made h = sym (first_skip 4 _ [] (rw (good, wide) (lt-leb (2 * w + 3) made h)) ∙ first_none)
+    not_made h = sym (first_skip 4 _ [] (rw (found.good, wide) (lt-leb (2 * w + 3) made h)) ∙ first_none)
 
 -- ---- a unit looked up: r is the code's, part by part
-pub spanned : (p : Plan) (u : ℕ) (r : Span) → r.number ≡ 0 → r.base ≡ base p u → r.end ≡ base p u + unit_length p u
+pub spanned : (p : Plan) (u : ℕ) (r : Span) → r.base ≡ base p u → r.end ≡ base p u + unit_length p u
     → r.a ≡ offset p u (byte copy_a 0) → r.b ≡ offset p u (byte copy_b 0) → r.width ≡ width p u → r ≡ span_of p u
-spanned p u r number begins ends first second wide =
-    λ i. record { base = begins i; end = ends i; a = first i; b = second i; width = wide i; number = number i }
+spanned p u r begins ends first second wide =
+    λ i. record { base = begins i; end = ends i; a = first i; b = second i; width = wide i }
 
--- n is measure's number, b its total
-module _ (p : Plan) (u length : ℕ) (r : Span) where
-  unspanned : (k : ℕ) → r.number ≡ suc k → ((late : Bool) → suc k ≡ job_row p u length late) → Spans p u length r
-  unspanned k e is =
-      record {
-        refused = λ h late. e ∙ is late;
-        plan = λ z. absurd (omega arith);
-        long = λ z. absurd (omega arith);
-        unit = λ z. absurd (omega arith);
-        is = λ z. absurd (omega arith);
-      }
-
-  pub no_plan_lem : (n : ℕ) → n ≡ start_number p → ¬ (n ≡ 0) → r.number ≡ n → Spans p u length r
+module _ (p : Plan) (u length : ℕ) where
+  pub no_plan_lem : (e : Refusal) → number_of e ≡ start_number p → (late : Bool) → number_of e ≡ job_row p u length late
   unfolding start_number
-  no_plan_lem zero is h e = absurd (h refl)
-  no_plan_lem (suc n) is h e = unspanned n e (λ late. is ∙ sym (first_refused _ _ (λ z. absurd (omega (arith, is ∙ z)))))
+  no_plan_lem e is late = is ∙ sym (first_refused _ _ (λ z. number_some e (is ∙ z)))
 
-  module _ (n b : ℕ) (is : n ≡ start_number p) (z : n ≡ 0) (t : b ≡ total p) where
-    pub no_room_lem : length < b → r.number ≡ SHORT-IMAGE → Spans p u length r
-    no_room_lem h e =
-        unspanned 2 e (λ late. sym (plan_passed p _ (sym is ∙ z) ∙ first_stop 3 _ _ (lt-ltb length (total p) (rw t at h))))
+  -- b is the total that was measured
+  module _ (b : ℕ) (fine : start_number p ≡ 0) (t : b ≡ total p) where
+    pub no_room_lem : length < b → (late : Bool) → SHORT-IMAGE ≡ job_row p u length late
+    no_room_lem h late = sym (plan_passed p _ fine ∙ first_stop 3 _ _ (lt-ltb length (total p) (rw t at h)))
 
-    pub no_unit_lem : b ≤ length → p.count ≤ u → r.number ≡ BAD-JOB → Spans p u length r
-    no_unit_lem l h e =
-        unspanned 3 e
-        (λ late. sym (plan_passed p _ (sym is ∙ z) ∙ first_skip 3 _ _ (le-ltb length (total p) (rw t at l))
-        ∙ first_stop 4 _ _ (rw (le-leb p.count u h))))
+    pub no_unit_lem : b ≤ length → p.count ≤ u → (late : Bool) → BAD-JOB ≡ job_row p u length late
+    no_unit_lem l h late =
+        sym (plan_passed p _ fine ∙ first_skip 3 _ _ (le-ltb length (total p) (rw t at l))
+        ∙ first_stop 4 _ _ (rw (le-leb p.count u h)))
 
-    pub spans : b ≤ length → u < p.count → r ≡ span_of p u → Spans p u length r
-    spans l h e =
-        record {
-          refused = λ q late. absurd (q (ap (λ (s : Span). s.number) e));
-          plan = λ _. start_says p (sym is ∙ z);
-          long = λ _. rw t at l;
-          unit = λ _. h;
-          is = λ _. e;
-        }
+    pub spans : (r : Span) → b ≤ length → u < p.count → r ≡ span_of p u → Spans p u length r
+    spans r l h e = record { plan = start_says p fine; long = rw t at l; unit = h; is = e }
 
 -- ---- what a unit that was looked up has
 module _ (p : Plan) (ok : PlanOk p) (u : ℕ) (h : u < p.count) where
@@ -154,15 +133,17 @@ module _ (p : Plan) (ok : PlanOk p) (u : ℕ) (h : u < p.count) where
   span_inside n r l is = rw is (omega (arith, base_bound p ok u p.count h))
 
   -- the lookup doesn't refuse what the row lets pass
-  pub looked_up : (n : ℕ) (r : Span) → total p ≤ n → Spans p u n r → r.number ≡ 0
-  looked_up n r l s =
-      elim (same r.number 0) [
-        | equal e ↦ e
-        | differ q ↦
-            s.refused q false
-            ∙ plan_passed p _ (start_fine p ok) ∙ first_skip 3 _ _ (le-ltb n (total p) l)
-            ∙ first_skip 4 _ _ (rw (lt-leb p.count u h)) ∙ first_none
-      ]
+  looked_up : (n : ℕ) → total p ≤ n → (e : Refusal) → ((late : Bool) → number_of e ≡ job_row p u n late) → ⊥
+  looked_up n l e is =
+      number_some e
+      (is false
+      ∙ plan_passed p _ (start_fine p ok) ∙ first_skip 3 _ _ (le-ltb n (total p) l)
+      ∙ first_skip 4 _ _ (rw (lt-leb p.count u h)) ∙ first_none)
+
+  pub found : (n : ℕ) → total p ≤ n → (r : Result Span Refusal)
+      → MatchResult r (Spans p u n) (λ e. (late : Bool) → number_of e ≡ job_row p u n late) → IsOk r
+  found n l (Ok span) s = refl
+  found n l (Err e) s = absurd (looked_up n l e s)
 
 -- ---- what a device that refusals 1 to 4 let pass has
 pub record Room (p : Plan) (payload : List ℕ) (phase : Phase) (image : List ℕ) : Type 0 where

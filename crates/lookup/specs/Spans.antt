@@ -18,7 +18,6 @@ span_of p u =
       a = offset p u (byte copy_a 0);
       b = offset p u (byte copy_b 0);
       width = width p u;
-      number = 0;
     }
 
 -- refusals 1 to 4 and 17, for an image of n bytes
@@ -33,12 +32,12 @@ Live p payload phase image = first (image_row p payload phase (length image)) �
 abbrev pub job_row : Plan → ℕ → ℕ → Bool → ℕ
 job_row p u n late = first (plan_row p ++ (SHORT-IMAGE when ltb n (total p) ∷ BAD-JOB when (leb p.count u || late) ∷ []))
 
+-- unit u of an accepted plan, in an image of n bytes
 pub record Spans (p : Plan) (u n : ℕ) (r : Span) : Type 0 where
-  pub refused : ¬ (r.number ≡ 0) → (late : Bool) → r.number ≡ job_row p u n late
-  pub plan : r.number ≡ 0 → PlanOk p
-  pub long : r.number ≡ 0 → total p ≤ n
-  pub unit : r.number ≡ 0 → u < p.count
-  pub is : r.number ≡ 0 → r ≡ span_of p u
+  pub plan : PlanOk p
+  pub long : total p ≤ n
+  pub unit : u < p.count
+  pub is : r ≡ span_of p u
 
 -- what every such span has
 pub record Sound (r : Span) : Type 0 where

@@ -3,12 +3,12 @@
 
 ghost use Rattle.std.specs.Prelude.{◌≡◌};
 ghost use Rattle.model.specs.Marker.{direction};
-ghost use Rattle.marker.specs.Meaning.{meaning, says_foreign};
+ghost use Rattle.marker.specs.Meaning.{meaning, says_foreign, way};
 
 use model::Direction;
 
 // What a marker byte says of its unit (the "log" of documents 000 and 001).
-#[derive(Clone, Copy)]
+#[derive(Clone, Copy, Debug, PartialEq, Eq)]
 pub enum Marker {
     Clean,
     WritingToA,
@@ -27,6 +27,8 @@ impl Marker {
     // From here on a byte is foreign.
     pub const FOREIGN: u8 = 8;
 
+    #[tactic(auto, unfolding(crate::specs::Meaning::meaning))]
+    // No From<u8>: document 01 asks for this function by name.
     pub fn classify(byte: u8) -> Marker
         ensures { result ≡ meaning byte }
     {
@@ -43,26 +45,27 @@ impl Marker {
     pub fn is_foreign(self) -> bool
         ensures { result ≡ says_foreign self }
     {
-        match self {
-            Marker::Clean => false,
-            Marker::WritingToA => false,
-            Marker::WritingToB => false,
-            Marker::Corrupted => false,
-            Marker::Foreign => true,
+        self == Marker::Foreign
+    }
+}
+
+// Which way a unit is cleaned up, by what its marker says.
+impl From<Marker> for Direction {
+    fn from(marker: Marker) -> Direction
+        ensures { result ≡ way marker }
+    {
+        match marker {
+            Marker::WritingToA => Direction::BToA,
+            Marker::Clean | Marker::WritingToB | Marker::Corrupted | Marker::Foreign =>
+                Direction::AToB,
         }
     }
 }
 
 // The way a cleanup copies, by the marker that it finds.
+#[tactic(auto, using(crate::proofs::Laws::meaning_way))]
 pub fn direction_of(marker: u8) -> Direction
     ensures { result ≡ direction marker }
 {
-    let meaning = Marker::classify(marker);
-    match meaning {
-        Marker::Clean => Direction::AToB,
-        Marker::WritingToA => Direction::BToA,
-        Marker::WritingToB => Direction::AToB,
-        Marker::Corrupted => Direction::AToB,
-        Marker::Foreign => Direction::AToB,
-    }
+    Direction::from(Marker::classify(marker))
 }

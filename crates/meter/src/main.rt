@@ -4,140 +4,147 @@
 // Or, with 2 for drive or 3 for drive over a lent table: drives at a level (the unit's byte) and each rate below count.
 #![tactic(auto)]
 
-ghost use Rattle.std.specs.Prelude.{◌≡◌, length};
-
 use brake::{drive, drive_over};
 use console::passed;
 use input::read_full;
 use model::{Plan, Role};
-use rights::service_rights;
+use rights::service_plan;
 use std::io;
 use std::io::Write;
-use store::Device;
+use store::{Answer, Device};
 
-fn number_of(low: u8, high: u8) -> u16 {
-    (high as u16) * 256 + (low as u16)
+// What is counted.
+#[derive(Clone, Copy)]
+enum Counted {
+    Step,
+    Pass,
+    Drive,
+    DriveOver,
 }
 
-// One store, by pass or by step.
-fn store_of(device: Device, image: &mut [u8], pass: bool) -> Device
-    ensures { length image.new ≡ length image.old }
-{
-    if pass {
-        let answer = passed(device, &mut image[..]);
-        return answer.device;
+impl From<u8> for Counted {
+    fn from(byte: u8) -> Counted {
+        match byte {
+            0 => Counted::Step,
+            1 => Counted::Pass,
+            3 => Counted::DriveOver,
+            _ => Counted::Drive,
+        }
     }
-    let answer = device.step(&mut image[..]);
-    answer.device
 }
 
-fn stores_of(device: Device, image: &mut [u8], pass: bool, count: u16)
-    ensures { length image.new ≡ length image.old }
+// The ten bytes, by name.
+#[derive(Clone, Copy)]
+struct Asked {
+    units: u16,
+    width: u16,
+    counted: Counted,
+    unit: u16,
+    rounds: u16,
+    count: u16,
+    page: u16,
+}
+
+impl From<[u8; 10]> for Asked {
+    fn from(bytes: [u8; 10]) -> Asked {
+        let [units, w0, w1, counted, unit, r0, r1, c0, c1, page] = bytes;
+        Asked {
+            units: units.into(),
+            width: u16::from_le_bytes([w0, w1]),
+            counted: counted.into(),
+            unit: unit.into(),
+            rounds: u16::from_le_bytes([r0, r1]),
+            count: u16::from_le_bytes([c0, c1]),
+            page: page.into(),
+        }
+    }
+}
+
+// As many stores, each by a step or a pass. It is a function of its own in the object code too, so that the begun device is copied for
+// it also where count is 0.
+#[inline(never)]
+fn stores<F: Fn(Device, &mut [u8]) -> Answer>(
+    mut answer: Answer,
+    image: &mut [u8],
+    store: &F,
+    count: u16,
+)
+    requires { F.IsAlwaysCallable store.now }
 {
-    let mut held = device;
-    let mut made: u16 = 0;
-    while made < count {
-        held = store_of(held, &mut image[..], pass);
-        made = made + 1;
+    for _ in 0..count {
+        answer = store(answer.device, image);
     }
 }
 
 // Each round begins at the formatted device, so that only the stores differ between two counts.
-fn rounds_of(
+fn rounds<F: Fn(Device, &mut [u8]) -> Answer>(
     formatted: Device,
     image: &mut [u8],
-    unit: u16,
+    store: F,
+    asked: Asked,
     payload: &[u8],
-    pass: bool,
-    rounds: u16,
-    count: u16,
 )
-    ensures { length image.new ≡ length image.old }
+    requires { F.IsAlwaysCallable store }
 {
-    let mut round: u16 = 0;
-    while round < rounds {
-        let begun = formatted.begin(&image[..], Role::Service, unit, payload);
-        stores_of(begun.device, &mut image[..], pass, count);
-        round = round + 1;
+    for _ in 0..asked.rounds {
+        let begun = formatted.begin(image, Role::Service, asked.unit, payload);
+        stores(begun, image, &store, asked.count);
     }
 }
 
-fn play<W: Write>(
+fn play<W: Write, F: Fn(Device, &mut [u8]) -> Answer>(
     out: &mut W,
-    asked: [u8; 10],
-    image: &mut [u8],
-    payload: &[u8],
-) -> io::Result<()> {
-    let width = number_of(asked[1], asked[2]);
+    asked: Asked,
+    store: F,
+) -> io::Result<()>
+    requires { F.IsAlwaysCallable store }
+{
     let plan = Plan {
-        count: number_of(asked[0], 0),
-        widths: [width; 8],
-        page: number_of(asked[9], 0),
-        grouped: false,
-        rights: service_rights(),
+        count: asked.units,
+        ..service_plan(&[asked.width; 8], asked.page, false)
     };
-    let started = Device::start(plan);
-    let formatted = started.device.format(&mut image[..]);
-    let device = formatted.device;
-    let unit = number_of(asked[4], 0);
-    let first: usize = 0;
-    let size = width as usize;
-    if payload.len() < size {
+    let mut image = [0; 4224];
+    let formatted = Device::start(plan).device.format(&mut image).device;
+    let payload = [120; 256];
+    let Some(payload) = payload.get(..usize::from(asked.width)) else {
         return Ok(());
-    }
-    rounds_of(
-        device,
-        &mut image[..],
-        unit,
-        &payload[first..size],
-        asked[3] == 1,
-        number_of(asked[5], asked[6]),
-        number_of(asked[7], asked[8]),
-    );
-    out.write_all(device.read(&image[..], Role::Service, unit))?;
-    out.write_all(b"\n")
+    };
+    rounds(formatted, &mut image, store, asked, payload);
+    out.write_all(formatted.read(&image, Role::Service, asked.unit))?;
+    writeln!(out)
 }
 
-// One drive, by the constant table or over a lent one.
-fn drive_of(table: &[u16], over: bool, level: u16, rate: u16) -> u16 {
-    if over {
-        let driven = drive_over(table, level, rate);
-        return driven.drive;
-    }
-    let driven = drive(level, rate);
-    driven.drive
-}
-
-// The drives of a level at each rate below count, put together so that none can be left out.
-fn drives_of(table: &[u16], over: bool, level: u16, count: u16) -> u16 {
-    let mut mixed: u16 = 0;
-    let mut rate: u16 = 0;
-    while rate < count {
-        mixed = mixed ^ drive_of(table, over, level, rate);
-        rate = rate + 1;
-    }
-    mixed
-}
-
-fn drive_all<W: Write>(out: &mut W, asked: [u8; 10]) -> io::Result<()> {
-    let table = [7u16; 1280];
-    let level = number_of(asked[4], 0);
-    let count = number_of(asked[7], asked[8]);
-    let mixed = drives_of(&table, asked[3] == 3, level, count);
-    out.write_all(&[(mixed % 256) as u8])
+// The drives at each rate below count, put together so that none can be left out.
+fn drives<W: Write, F: Fn(u16) -> u16>(out: &mut W, count: u16, drive: F) -> io::Result<()>
+    requires { F.IsAlwaysCallable drive }
+{
+    let mixed = (0..count).fold(0, |mixed, rate| mixed ^ drive(rate));
+    let [low, _] = mixed.to_le_bytes();
+    out.write_all(&[low])
 }
 
 fn main(rt: HostRuntime) -> io::Result<()> {
-    let mut asked = [0u8; 10];
-    let got = read_full(&mut rt.reader(), &mut asked)?;
+    let mut bytes = [0; 10];
+    let got = read_full(&mut rt.reader(), &mut bytes)?;
     if got != 10 {
         return Ok(());
     }
     let mut out = io::writer(&rt);
-    if 1 < asked[3] {
-        return drive_all(&mut out, asked);
+    let asked = Asked::from(bytes);
+    let level = asked.unit;
+    let table = [7; 1280];
+    match asked.counted {
+        Counted::Step => play(&mut out, asked, |device, image| device.step(image)),
+        Counted::Pass => play(&mut out, asked, |device, image| passed(device, image)),
+        Counted::Drive => drives(
+            &mut out,
+            asked.count,
+            |rate| drive(level, rate).unwrap_or(0),
+        ),
+        Counted::DriveOver => drives(
+            &mut out,
+            asked.count,
+            |rate| drive_over(&table, level, rate).unwrap_or(0),
+        ),
     }
-    let mut image = [0u8; 4224];
-    let payload = [120u8; 256];
-    play(&mut out, asked, &mut image, &payload)
 }

@@ -11,9 +11,9 @@ ghost use Rattle.model.specs.Calls.{view_of, next};
 ghost use Rattle.lookup.specs.Spans.{Sound};
 ghost use Rattle.mirror.specs.Tears.{first_left, page_from, torn_in};
 
-use choice::{clean_choice, write_choice};
+use choice::{Choice, clean_choice, write_choice};
 use group::part_of;
-use lookup::{Span, span_of};
+use lookup::{Span, unit_span};
 use model::{Phase, Plan};
 
 // The storing routine: it is lent the writable span of its own unit, from the marker on, and nothing else.
@@ -25,13 +25,13 @@ fn put(span: &mut [u8], at: usize, byte: u8)
 }
 
 // Makes a store in a unit; the storing routine is lent the unit's span alone.
-pub fn store_at(image: &mut [u8], span: Span, at: u32, byte: u8)
-    requires { (span.base + at < span.end) × (span.end ≤ length image.old) }
-    ensures { image.new ≡ set image.old (span.base + at) byte }
+pub fn store_at(image: &mut [u8], span: Span, store: Choice)
+    requires { (span.base + store.at < span.end) × (span.end ≤ length image.old) }
+    ensures { image.new ≡ set image.old (span.base + store.at) store.byte }
 {
     let first = span.base as usize;
     let past = span.end as usize;
-    put(&mut image[first..past], at as usize, byte);
+    put(&mut image[first..past], store.at as usize, store.byte);
 }
 
 // Each bit is the new code's where m has a 1, and the old marker's where m has a 0.
@@ -54,38 +54,34 @@ fn put_page(span: &mut [u8], from: usize, first: u8, page: &[u8])
     ensures { span.new ≡ sets span.old from (first ∷ drop 1 page.now) }
 {
     span[from] = first;
-    let mut i: usize = 1;
-    while i < page.len() {
-        span[from + i] = page[i];
-        i = i + 1;
-    }
+    let end = from + page.len();
+    span[from + 1..end].copy_from_slice(&page[1..]);
 }
 
 // Tears a store in a unit: the page around it. An offset's bits inside a page are taken off by a mask, as in `layout`.
-fn tear_at(image: &mut [u8], span: Span, at: u32, byte: u8, page: &[u8])
-    requires { Sound span × (length page.now ≡ span.a) × (span.base + page_from span at + span.a ≤ span.end)
+fn tear_at(image: &mut [u8], span: Span, store: Choice, page: &[u8])
+    requires { Sound span × (length page.now ≡ span.a) × (span.base + page_from span store.at + span.a ≤ span.end)
         × (span.end ≤ length image.old) }
-    ensures { image.new ≡ torn_in span at byte page.now image.old }
+    ensures { image.new ≡ torn_in span store.at store.byte page.now image.old }
 {
     let first = span.base as usize;
     let past = span.end as usize;
+    let at = store.at;
     let from = (at - (at & (span.a - 1))) as usize;
-    let left = torn_byte(at, image[first + from], byte, page[0]);
+    let left = torn_byte(at, image[first + from], store.byte, page[0]);
     put_page(&mut image[first..past], from, left, page);
 }
 
 // Tears the next store of a group.
-fn tear_group(plan: Plan, payload: &[u8], write: u16, made: u16, image: &mut [u8], page: &[u8])
-    requires { (cut_number (view_of plan payload.now (Grouping write made) image.old) (length page.now) ≡ 0)
-        × (length payload.now ≡ 256) }
+fn tear_group(plan: Plan, payload: &[u8; 256], write: u16, made: u16, image: &mut [u8], page: &[u8])
+    requires { cut_number (view_of plan payload.now (Grouping write made) image.old) (length page.now) ≡ 0 }
     ensures { image.new ≡ stored plan image.old (torn_by page.now)
         (next plan payload.now image.old (Grouping write made)) }
 {
-    let part = part_of(plan, payload, write);
-    let from = part.from;
-    let span = span_of(plan, part.unit, image.len());
-    let choice = write_choice(span, &payload[from..], made);
-    tear_at(&mut image[..], span, choice.at, choice.byte, page);
+    let part = part_of(plan, payload, write).unwrap();
+    let span = unit_span(plan, part.unit, image.len());
+    let store = write_choice(span, &payload[part.from..], made).unwrap();
+    tear_at(image, span, store, page);
 }
 
 // Tears the next store of a phase, of which Cold and Ready have none. The cut is one that is not refused.
@@ -95,24 +91,21 @@ pub fn tear_on(plan: Plan, payload: &[u8; 256], phase: Phase, image: &mut [u8], 
         (next plan payload.now image.old phase) }
 {
     match phase {
-        Phase::Cold => {}
-        Phase::Ready => {}
+        Phase::Cold | Phase::Ready => {}
         Phase::Writing { unit, made } => {
-            let span = span_of(plan, unit, image.len());
-            let choice = write_choice(span, payload, made);
-            tear_at(&mut image[..], span, choice.at, choice.byte, page);
+            let span = unit_span(plan, unit, image.len());
+            let store = write_choice(span, payload, made).unwrap();
+            tear_at(image, span, store, page);
         }
         Phase::Recovering {
             unit,
             made,
             direction,
         } => {
-            let span = span_of(plan, unit, image.len());
-            let copied = clean_choice(span, &image[..], made, direction);
-            tear_at(&mut image[..], span, copied.at, copied.byte, page);
+            let span = unit_span(plan, unit, image.len());
+            let copied = clean_choice(span, image, made, direction).unwrap();
+            tear_at(image, span, copied, page);
         }
-        Phase::Grouping { write, made } => {
-            tear_group(plan, payload, write, made, &mut image[..], page);
-        }
+        Phase::Grouping { write, made } => tear_group(plan, payload, write, made, image, page),
     }
 }

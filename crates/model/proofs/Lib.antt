@@ -2,6 +2,7 @@ pub mod Compare
 pub mod MarkerLaws
 pub mod RefusalLaws
 pub mod Runs
+pub mod Numbered
 pub mod PageLaws
 pub mod LayoutLaws
 pub mod Tasks

@@ -1,5 +1,5 @@
-// The types that the save store's meaning speaks of: the plan, the roles and their rights, the phase, inspect's answer. There is no
-// function here.
+// The types that the save store's meaning speaks of: the plan, the roles and their rights, the phase, inspect's answer; and the
+// refusals, whose numbers are the one function here.
 // The meaning stands in specs/; specs/PowerCut.antt has the power-cut theorem's statement.
 #![tactic(auto)]
 
@@ -17,14 +17,15 @@ pub struct Plan {
 }
 
 // Who asks for a read or a begin.
-#[derive(Clone, Copy)]
+#[derive(Clone, Copy, Debug, PartialEq, Eq)]
 pub enum Role {
     Rider,
     Gym,
     Service,
 }
 
-// What a role may do with a unit. The same names stand in specs/Rights.antt.
+// What a role may do with a unit. The same names stand in specs/Rights.antt. Bytes, and no enum, since a plan's rights may hold any byte:
+// `may_see` and `may_write` of specs/Rights.antt say of each what it is as good as.
 pub const NOTHING: u8 = 0;
 
 pub const SEE: u8 = 1;
@@ -40,14 +41,14 @@ pub struct Rights {
 }
 
 // The way a cleanup copies.
-#[derive(Clone, Copy)]
+#[derive(Clone, Copy, Debug, PartialEq, Eq)]
 pub enum Direction {
     AToB,
     BToA,
 }
 
 // What the device is at; `made` counts the stores of the job that are made, of a group those of the write that it is at.
-#[derive(Clone, Copy)]
+#[derive(Clone, Copy, Debug, PartialEq, Eq)]
 pub enum Phase {
     Cold,
     Ready,
@@ -66,8 +67,9 @@ pub enum Phase {
     },
 }
 
-// What inspect hands back: a refusal's number, a unit whose marker isn't OK, or that there is none.
-#[derive(Clone, Copy)]
+// What inspect hands back: a refusal's number, a unit whose marker isn't OK, or that there is none. The definition `inspect` and what
+// specs/Demands.antt says of it answer with this type, so it is no Option in a Result.
+#[derive(Clone, Copy, Debug, PartialEq, Eq)]
 pub enum Inspection {
     Refused(u16),
     Suspect(u16),

@@ -12,218 +12,233 @@
 // pass; and after a cut in the middle of such a rewriting. These eight lines are a simulator's output, by other hands.
 #![tactic(auto)]
 
-ghost use Rattle.std.specs.Prelude.{◌+◌, ◌*◌, ◌≤◌};
+ghost use Rattle.std.specs.Prelude.{◌≡◌, ◌+◌, ◌*◌, ◌≤◌, length};
 
 use model::{Inspection, Plan, Role};
 use replay::outage;
-use rights::service_rights;
-use std::io;
+use rights::service_plan;
 use std::io::Write;
+use std::{fmt, io};
 use store::Device;
 
-// What comes back of a save after the calls and a cut that leaves m in every byte of the page; x would be neither.
-fn save_back(page: u16, calls: &[u8], m: u8) -> u8
-    requires { page ≤ 16 }
-{
-    let plan = Plan {
-        count: 1,
-        widths: [3, 0, 0, 0, 0, 0, 0, 0],
-        page: page,
-        grouped: false,
-        rights: service_rights(),
-    };
-    let mut image = [0u8; 48];
+// The bytes of a page.
+#[derive(Clone, Copy)]
+enum Page {
+    One = 1,
+    Four = 4,
+    Eight = 8,
+    Sixteen = 16,
+}
+
+const PAGES: [Page; 4] = [Page::One, Page::Four, Page::Eight, Page::Sixteen];
+
+// Which bytes come back.
+#[derive(Clone, Copy, PartialEq, Eq)]
+enum Fate {
+    Old,
+    New,
+    Mixed,
+    Neither,
+}
+
+impl fmt::Display for Fate {
+    fn fmt<W: fmt::Write>(&self, f: &mut fmt::Formatter<W>) -> fmt::Result {
+        match self {
+            Fate::Old => write!(f, "o"),
+            Fate::New => write!(f, "n"),
+            Fate::Mixed => write!(f, "m"),
+            Fate::Neither => write!(f, "x"),
+        }
+    }
+}
+
+// The fate of a place by those with two bytes of the cut.
+fn both(one: Fate, other: Fate) -> Fate {
+    match (one, other) {
+        (Fate::Neither, _) | (_, Fate::Neither) => Fate::Neither,
+        _ if one == other => one,
+        _ => Fate::Mixed,
+    }
+}
+
+// A list of calls as bytes (crates/recovery/specs/Encoding.antt). Behind them are zeros, which are steps.
+#[derive(Clone, Copy)]
+struct Calls {
+    bytes: [u8; 440],
+    size: usize,
+}
+
+impl Calls {
+    fn new() -> Calls
+        ensures { result.size ≡ 0 }
+    {
+        Calls {
+            bytes: [0; 440],
+            size: 0,
+        }
+    }
+
+    // A call more: its kind, its unit, and bytes of its own.
+    fn call(self, kind: u8, unit: u8, own: &[u8]) -> Calls
+        requires { self.size + 5 + length own.now ≤ 440 }
+        ensures { result.size ≡ self.size + 5 + length own.now }
+    {
+        let Calls { mut bytes, size } = self;
+        let from = size + 5;
+        let end = from + own.len();
+        let [high, low] = (own.len() as u16).to_be_bytes();
+        bytes[size..from].copy_from_slice(&[kind, 0, unit, high, low]);
+        bytes[from..end].copy_from_slice(own);
+        Calls { bytes, size: end }
+    }
+
+    fn begin(self, unit: u8, payload: &[u8]) -> Calls
+        requires { self.size + 5 + length payload.now ≤ 440 }
+        ensures { result.size ≡ self.size + 5 + length payload.now }
+    {
+        self.call(1, unit, payload)
+    }
+
+    fn group(self, members: &[u8]) -> Calls
+        requires { self.size + 5 + length members.now ≤ 440 }
+        ensures { result.size ≡ self.size + 5 + length members.now }
+    {
+        self.call(5, 0, members)
+    }
+
+    fn steps(self, count: usize) -> Calls
+        requires { self.size + 5 * count ≤ 440 }
+        ensures { result.size ≡ self.size + 5 * count }
+    {
+        Calls {
+            size: self.size + 5 * count,
+            ..self
+        }
+    }
+
+    // A cut that leaves this byte in a page of one, and a wake.
+    fn cut(self, m: u8) -> Calls
+        requires { self.size + 11 ≤ 440 }
+        ensures { result.size ≡ self.size + 11 }
+    {
+        self.call(2, 0, &[m]).call(3, 0, &[])
+    }
+}
+
+// The console after these calls, a cut that leaves m in every byte of the page, and the repair.
+fn repaired(plan: Plan, page: Page, image: &mut [u8], calls: &[u8], m: u8) -> Device {
     let torn = [m; 16];
-    let size = page as usize;
-    let repaired = outage(plan, &mut image, calls, &torn[0..size]);
-    let saved = repaired.device.read(&image, Role::Service, 0);
-    if saved == b"old".as_slice() {
-        return b'o';
-    }
-    if saved == b"new".as_slice() {
-        return b'n';
-    }
-    b'x'
+    let page = page as usize;
+    outage(plan, image, calls, &torn[..page]).device
 }
 
-// Whether the three units have these bytes, and the record zeros.
-fn holds(device: Device, image: &[u8], first: &[u8], second: &[u8]) -> bool {
-    if device.read(image, Role::Service, 0) != first {
-        return false;
-    }
-    if device.read(image, Role::Service, 1) != second {
-        return false;
-    }
-    if device.read(image, Role::Service, 2) != [4, 5, 6].as_slice() {
-        return false;
-    }
-    device.read(image, Role::Service, 3) == [0, 0, 0, 0, 0, 0].as_slice()
-}
-
-fn all_ok(device: Device, image: &[u8]) -> bool {
-    let found = device.inspect(image);
-    match found {
-        Inspection::AllOk => true,
-        Inspection::Suspect(_) => false,
-        Inspection::Refused(_) => false,
+// What comes back of a save after the calls and the cut.
+fn save_back(page: Page, calls: &[u8], m: u8) -> Fate {
+    let plan = service_plan(&[3], page as u16, false);
+    let mut image = [0; 48];
+    let device = repaired(plan, page, &mut image, calls, m);
+    match device.read(&image, Role::Service, 0) {
+        b"old" => Fate::Old,
+        b"new" => Fate::New,
+        _ => Fate::Neither,
     }
 }
 
-// What comes back of a group after the calls and a cut that leaves m in every byte of the page.
-fn group_back(page: u16, calls: &[u8], m: u8) -> u8
-    requires { page ≤ 16 }
+// Whether the first units have these bytes.
+fn holds(device: Device, image: &[u8], units: [&[u8]; 4]) -> bool {
+    (0..4).zip(units).all(|(unit, bytes)| device.read(image, Role::Service, unit) == bytes)
+}
+
+// What comes back of a group after the calls and the cut.
+fn group_back(page: Page, calls: &[u8], m: u8) -> Fate {
+    let plan = service_plan(&[2, 1, 3, 6], page as u16, true);
+    let mut image = [0; 192];
+    let device = repaired(plan, page, &mut image, calls, m);
+    if device.inspect(&image) != Inspection::AllOk {
+        return Fate::Neither;
+    }
+    if holds(device, &image, [&[1, 2], &[3], &[4, 5, 6], &[0; 6]]) {
+        return Fate::Old;
+    }
+    if holds(device, &image, [&[17, 18], &[19], &[4, 5, 6], &[0; 6]]) {
+        return Fate::New;
+    }
+    Fate::Neither
+}
+
+// The fate of one place, whatever the cut leaves.
+fn letter<F: Fn(u8) -> Fate>(back: F) -> Fate
+    requires { F.IsAlwaysCallable back }
 {
-    let plan = Plan {
-        count: 4,
-        widths: [2, 1, 3, 6, 0, 0, 0, 0],
-        page: page,
-        grouped: true,
-        rights: service_rights(),
-    };
-    let mut image = [0u8; 192];
-    let torn = [m; 16];
-    let size = page as usize;
-    let repaired = outage(plan, &mut image, calls, &torn[0..size]);
-    let device = repaired.device;
-    if !all_ok(device, &image) {
-        return b'x';
-    }
-    if holds(device, &image, &[1, 2], &[3]) {
-        return b'o';
-    }
-    if holds(device, &image, &[17, 18], &[19]) {
-        return b'n';
-    }
-    b'x'
+    (1..=255).fold(back(0), |found, m| both(found, back(m)))
 }
 
-fn back(group: bool, page: u16, calls: &[u8], m: u8) -> u8
-    requires { page ≤ 16 }
-{
-    if group {
-        return group_back(page, calls, m);
-    }
-    save_back(page, calls, m)
-}
-
-fn both(one: u8, other: u8) -> u8 {
-    if one == other {
-        return one;
-    }
-    if one == b'x' || other == b'x' {
-        return b'x';
-    }
-    b'm'
-}
-
-// The letter of one place.
-fn letter(group: bool, page: u16, calls: &[u8]) -> u8
-    requires { page ≤ 16 }
-{
-    let mut found = back(group, page, calls, 0);
-    for m in 1..=255 {
-        found = both(found, back(group, page, calls, m));
-    }
-    found
-}
-
-// A letter for each place of a cut: after the first `start` bytes, and after each step that follows them.
-fn row<W: Write>(
+// A letter for each place of a cut: after the calls, and after each step that follows them.
+fn row<W: Write, F: Fn(&[u8], u8) -> Fate>(
     out: &mut W,
-    group: bool,
-    page: u16,
-    calls: [u8; 440],
-    start: usize,
+    back: F,
+    calls: Calls,
     steps: usize,
 ) -> io::Result<()>
-    requires { (page ≤ 16) × (start + 5 * steps ≤ 440) }
+    requires room { calls.size + 5 * steps ≤ 440 }
+    requires callable { F.IsAlwaysCallable back }
 {
     for made in 0..=steps {
-        let end = start + 5 * made;
-        out.write_all(&[letter(group, page, &calls[0..end])])?;
+        let Calls { bytes, size } = calls.steps(made);
+        write!(out, "{}", letter(|m| back(&bytes[..size], m)))?;
     }
-    out.write_all(b"\n")
+    writeln!(out)
 }
 
-// A begin of "old", its nine steps and a begin of "new", which are 61 bytes, and then steps: zeros are steps.
-fn saves() -> [u8; 440] {
-    let mut calls = [0u8; 440];
-    calls[0] = 1;
-    calls[4] = 3;
-    calls[5] = b'o';
-    calls[6] = b'l';
-    calls[7] = b'd';
-    calls[53] = 1;
-    calls[57] = 3;
-    calls[58] = b'n';
-    calls[59] = b'e';
-    calls[60] = b'w';
-    calls
-}
-
-// The begins of units 0, 1 and 2 with their steps, and the begin of the group, which are 136 bytes; then steps: zeros are steps.
-fn groups() -> [u8; 440] {
-    let mut calls = [0u8; 440];
-    calls[0] = 1;
-    calls[4] = 2;
-    calls[5] = 1;
-    calls[6] = 2;
-    calls[42] = 1;
-    calls[44] = 1;
-    calls[46] = 1;
-    calls[47] = 3;
-    calls[73] = 1;
-    calls[75] = 2;
-    calls[77] = 3;
-    calls[78] = 4;
-    calls[79] = 5;
-    calls[80] = 6;
-    calls[126] = 5;
-    calls[130] = 5;
-    calls[131] = 1;
-    calls[132] = 19;
-    calls[133] = 0;
-    calls[134] = 17;
-    calls[135] = 18;
-    calls
-}
-
-// A cut with this byte at a place, and a wake, which are 11 bytes.
-fn cut_at(calls: [u8; 440], at: usize, m: u8) -> [u8; 440]
-    requires { at ≤ 400 }
+// A begin of "old", its nine steps and a begin of "new".
+fn saves() -> Calls
+    ensures { result.size ≡ 61 }
 {
-    let mut more = calls;
-    more[at] = 2;
-    more[at + 4] = 1;
-    more[at + 5] = m;
-    more[at + 6] = 3;
-    more
+    Calls::new().begin(0, b"old").steps(9).begin(0, b"new")
+}
+
+// The begins of units 0, 1 and 2 with their steps, and the begin of the group.
+fn groups() -> Calls
+    ensures { result.size ≡ 136 }
+{
+    Calls::new()
+        .begin(0, &[1, 2])
+        .steps(7)
+        .begin(1, &[3])
+        .steps(5)
+        .begin(2, &[4, 5, 6])
+        .steps(9)
+        .group(&[1, 19, 0, 17, 18])
+}
+
+fn in_saves<W: Write>(out: &mut W) -> io::Result<()> {
+    for page in PAGES {
+        row(out, |calls, m| save_back(page, calls, m), saves(), 9)?;
+    }
+    let back = |calls: &[u8], m: u8| save_back(Page::One, calls, m);
+    // cut in copy A, after two stores, and in copy B, after six
+    row(out, back, saves().steps(2).cut(0x5a), 4)?;
+    row(out, back, saves().steps(6).cut(0x5a), 4)
 }
 
 fn in_groups<W: Write>(out: &mut W) -> io::Result<()> {
-    row(out, true, 1, groups(), 136, 42)?;
-    row(out, true, 4, groups(), 136, 42)?;
-    row(out, true, 8, groups(), 136, 42)?;
-    row(out, true, 16, groups(), 136, 42)?;
-    // the record complete: 15 steps
-    let stands = cut_at(groups(), 211, 0x5a);
-    row(out, true, 1, stands, 222, 27)?;
-    // passed: 8 steps
-    row(out, true, 1, cut_at(groups(), 176, 0x5a), 187, 34)?;
-    // not passed: 7 steps
-    row(out, true, 1, cut_at(groups(), 171, 0), 182, 7)?;
+    for page in PAGES {
+        row(out, |calls, m| group_back(page, calls, m), groups(), 42)?;
+    }
+    let back = |calls: &[u8], m: u8| group_back(Page::One, calls, m);
+    // the record complete
+    let stands = groups().steps(15).cut(0x5a);
+    row(out, back, stands, 27)?;
+    // passed
+    row(out, back, groups().steps(8).cut(0x5a), 34)?;
+    // not passed
+    row(out, back, groups().steps(7).cut(0), 7)?;
     // cut again after 10 steps of the rewriting
-    row(out, true, 1, cut_at(stands, 272, 0x5a), 283, 30)
+    row(out, back, stands.steps(10).cut(0x5a), 30)
 }
 
 fn main(rt: HostRuntime) -> io::Result<()> {
     let mut out = io::writer(&rt);
-    row(&mut out, false, 1, saves(), 61, 9)?;
-    row(&mut out, false, 4, saves(), 61, 9)?;
-    row(&mut out, false, 8, saves(), 61, 9)?;
-    row(&mut out, false, 16, saves(), 61, 9)?;
-    // cut in copy A, after two stores, and in copy B, after six
-    row(&mut out, false, 1, cut_at(saves(), 71, 0x5a), 82, 4)?;
-    row(&mut out, false, 1, cut_at(saves(), 91, 0x5a), 102, 4)?;
+    in_saves(&mut out)?;
     in_groups(&mut out)
 }

@@ -1,4 +1,3 @@
 pub mod Bounds
-pub mod Told
-pub mod Listed
 pub mod AsCalls
+pub mod Told

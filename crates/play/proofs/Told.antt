@@ -1,40 +1,33 @@
 -- A form that prints its word: what its call gives, and what `tell` then prints, are what the form plays.
-use Prim.Native.Nat.{ℕ}
-use mathlib.Core.Path.{◌≡◌, ap, sym, ◌∙◌}
-use mathlib.Core.Bool.{false}
-use mathlib.Core.List.{List}
-use mathlib.Core.Option.{some}
-use lib.ListN.{length}
+use Rattle.std.specs.Prelude.{◌≡◌, ℕ, List, Option, Some, Result, IfOk, false}
+use Rattle.std.proofs.Common.{sym}
+use Rattle.std.proofs.lemmas.Result.{IfOk-weaker}
 use Rattle.script.specs.declared.Form.{Form}
 use Rattle.printing.specs.Printed.{answer_line}
-use Rattle.text.specs.Wrote.{Wrote}
 use Rattle.store.specs.declared.Answer.{Answer}
-use Rattle.store.specs.Modelled.{modelled, Gives}
+use Rattle.store.specs.declared.Device.{Device}
+use Rattle.store.specs.Modelled.{Gives}
 use Rattle.model.specs.Calls.{Outcome}
-use Rattle.play.specs.declared.Played.{Played}
-use Rattle.std.specs.Prelude.{Result, IfOk}
-use Rattle.std.proofs.lemmas.Result.{IfOk-weaker}
-use Rattle.play.specs.Plays.{Buffer, place_for, word, is_plan, Plays}
+use Rattle.text.specs.declared.Page.{Page}
+use Rattle.play.specs.Plays.{Buffer, Printed, word, is_plan, Plays}
 
-pub told : (form : Form) (o : Outcome) (a : Answer) (r : Played) (left before after w : List ℕ) (used : ℕ) → word form ≡ some w
+told_one : (form : Form) (o : Outcome) (a : Answer) (r : Option Device) (left w : List ℕ) (before after : Page) → word form ≡ Some w
     → is_plan form ≡ false → Gives a left o
-    → (r.device ≡ a.device) × (r.bad ≡ false) × Buffer after r.used
-    × Wrote before (place_for (length before) used) (answer_line w a.number) after r.used
-    → Plays form o r left before used after
-told form o a r left before after w used ew ep g t =
-    record {
-      device = ap modelled t.0 ∙ g.device;
+    → (r ≡ Some a.device) × Printed before (answer_line w a.number) after × Buffer after
+    → Plays form o r left before after
+told_one form o a r left w before after ew ep g t =
+    rw t.0 (record {
+      device = g.device;
       image = g.image;
-      answered = rw ew (rw g.number at t.3);
-      bad = t.1 ∙ sym ep;
+      answered = rw ew (rw g.number at t.1);
+      bad = sym ep;
       fits = t.2;
-    }
+    })
 
 -- the same where `tell` may fail to write
-pub told_ok : {E : Type 0} (form : Form) (o : Outcome) (a : Answer) (r : Result Played E) (left before after w : List ℕ) (used : ℕ)
-    → word form ≡ some w → is_plan form ≡ false → Gives a left o
-    → IfOk r (λ played. (played.device ≡ a.device) × (played.bad ≡ false) × Buffer after played.used
-    × Wrote before (place_for (length before) used) (answer_line w a.number) after played.used)
-    → IfOk r (λ played. Plays form o played left before used after)
-told_ok form o a r left before after w used ew ep g t =
-    IfOk-weaker r _ _ (λ played h. told form o a played left before after w used ew ep g h) t
+pub told : {E : Type 0} (form : Form) (o : Outcome) (a : Answer) (r : Result (Option Device) E) (left w : List ℕ) (before after : Page)
+    → word form ≡ Some w → is_plan form ≡ false → Gives a left o
+    → IfOk r (λ next. (next ≡ Some a.device) × Printed before (answer_line w a.number) after × Buffer after)
+    → IfOk r (λ next. Plays form o next left before after)
+told form o a r left w before after ew ep g t =
+    IfOk-weaker r _ _ (λ next h. told_one form o a next left w before after ew ep g h) t

@@ -1,6 +1,6 @@
 -- A line of a script is a list of the power-cut theorem's calls, so what the theorem says of lists it says of scripts.
 use Rattle.std.specs.Prelude.{ℕ, ◌≡◌, List, [], ◌∷◌, replicate}
-use Rattle.list.specs.declared.Kind.TheVariants.{Byte}
+use Rattle.token.specs.Token.{hex_at}
 use Rattle.list.specs.Items.{values_at}
 use Rattle.script.specs.declared.Form.{Form}
 use Rattle.script.specs.declared.Form.TheVariants.{Plan, Write, Step, Cut, Wake, Show}
@@ -12,9 +12,9 @@ use Rattle.play.specs.Plays.{plays}
 
 abbrev pub calls_of_line : Form → List ℕ → List Call
 calls_of_line (Plan at count page) line = []
-calls_of_line (Write unit at count) line = begin Service unit (values_at Byte line at count) ∷ []
+calls_of_line (Write unit at count) line = begin Service unit (values_at hex_at line at count) ∷ []
 calls_of_line (Step n) line = replicate n step
-calls_of_line (Cut at count) line = cut (values_at Byte line at count) ∷ []
+calls_of_line (Cut at count) line = cut (values_at hex_at line at count) ∷ []
 calls_of_line Wake line = wake ∷ []
 calls_of_line Show line = []
 

@@ -1,22 +1,21 @@
 // The bench program's work, document 01, 'Bench program': plays a script line by line on the save store, and prints.
-// All lines are printed into one lent buffer; `flush` alone writes it out, to the writer that is handed down to it. Its users are our
-// own programs, which lend it room enough.
+// All lines are put onto one page, in lent memory; `flush` alone writes it out, to the writer that is handed down to it. Its users are
+// our own programs, which lend it room enough.
 #![tactic(auto)]
 
-ghost use Rattle.std.specs.Prelude.{◌≡◌, false, ◌+◌, ◌<◌, ◌≤◌, length, IfOk, OnErr};
+ghost use Rattle.std.specs.Prelude.{◌≡◌, Some, ◌+◌, ◌<◌, ◌≤◌, length, take, IfOk, OnErr};
 ghost use Rattle.model.specs.declared.Role.TheVariants.{Service};
 ghost use Rattle.model.specs.Refusals.{start_number};
 ghost use Rattle.model.specs.Calls.{begin, cut};
 ghost use Rattle.store.specs.Modelled.{modelled, Gives};
-ghost use Rattle.list.specs.declared.Kind.TheVariants.{Byte};
-ghost use Rattle.script.specs.declared.Line.TheVariants.{Is};
-ghost use Rattle.token.specs.Ascii.{ascii};
+ghost use Rattle.token.specs.Token.{hex_at};
 ghost use Rattle.list.specs.Items.{values_at};
 ghost use Rattle.script.specs.Line.{form_of};
 ghost use Rattle.printing.specs.Printed.{answer_line, line_most};
-ghost use Rattle.text.specs.Wrote.{Wrote};
-ghost use Rattle.play.specs.Plays.{Buffer, place_for, Held, plays, Plays};
+ghost use Rattle.play.specs.Input.{ReadsUpTo};
+ghost use Rattle.play.specs.Plays.{Buffer, Printed, Room, Held, plays, Plays};
 
+use input::read_full;
 use layout::base_of;
 use model::{Plan, Role};
 use printing::{put_answer, put_unit};
@@ -25,111 +24,104 @@ use rights::service_rights;
 use script::Form;
 use std::io;
 use store::{Answer, Device};
+use text::Page;
 
-// The device after a line, and how much of the buffer is used; `bad` if the line may not stand where it does.
-#[derive(Clone, Copy)]
-struct Played {
-    device: Device,
-    used: usize,
-    bad: bool,
+// The most bytes that a script may have.
+const TEXT_MOST: usize = 65536;
+
+// The image of the widest plan: eight units of 256 bytes, twice, and their markers' pages of 16.
+const IMAGE_MOST: usize = 4224;
+
+// Lines are put onto the page, which is written out before one that may not fit any more.
+#[derive(Drop)]
+struct Printer<'w, 'p, W> {
+    writer: &'w mut W,
+    page: Page<'p>,
 }
 
-// Writes out what the buffer holds.
-fn flush<W: io::Write>(writer: &mut W, out: &[u8], used: usize) -> io::Result<()>
-    requires { used ≤ length out.now }
-{
-    writer.write_all(&out[..used])
-}
-
-// The place for the next line: the buffer is written out before if it may not fit.
-fn room<W: io::Write>(writer: &mut W, out: &[u8], used: usize) -> io::Result<usize>
-    requires { Buffer out.now used }
-    ensures { IfOk result (λ place. (place ≡ place_for (length out.now) used)
-        × (place + line_most ≤ length out.now)) }
-{
-    if out.len() - used < printing::LINE_MOST {
-        flush(writer, out, used)?;
-        return Ok(0);
+impl<W: io::Write> Printer<'_, '_, W> {
+    // Writes out what the page holds.
+    fn flush(&mut self) -> io::Result<()>
+        requires { self.old.page.used ≤ length self.old.page.bytes.now }
+        ensures flushed { IfOk result (λ _. self.new.page.used ≡ 0) }
+        ensures failed { OnErr result (self.new.page.used ≡ self.old.page.used) }
+        ensures bytes { self.new.page.bytes.now ≡ self.old.page.bytes.now }
+    {
+        self.writer.write_all(self.page.text())?;
+        self.page.clear();
+        Ok(())
     }
-    Ok(used)
-}
 
-// Prints a word and a number.
-fn print<W: io::Write>(
-    writer: &mut W,
-    out: &mut [u8],
-    used: usize,
-    word: &[u8],
-    number: usize,
-) -> io::Result<usize>
-    requires { Buffer out.old used × (length word.now ≤ 5) × (number < 100000) }
-    ensures printed { IfOk result (λ next. Wrote out.old (place_for (length out.old) used)
-        (answer_line word.now number) out.new next × Buffer out.new next) }
-    ensures failed { OnErr result (out.new ≡ out.old) }
-{
-    let at = room(writer, out, used)?;
-    Ok(put_answer(out, at, word, number))
-}
-
-// Prints that a line is bad.
-fn print_bad<W: io::Write>(
-    writer: &mut W,
-    out: &mut [u8],
-    used: usize,
-    number: usize,
-) -> io::Result<usize>
-    requires { Buffer out.old used × (number < 100000) }
-    ensures printed { IfOk result (λ next. Wrote out.old (place_for (length out.old) used)
-        (answer_line (ascii "bad") number) out.new next × Buffer out.new next) }
-    ensures failed { OnErr result (out.new ≡ out.old) }
-{
-    print(writer, out, used, b"bad", number)
-}
-
-// Prints a line a unit.
-fn show<W: io::Write>(
-    writer: &mut W,
-    out: &mut [u8],
-    used: usize,
-    plan: Plan,
-    image: &[u8],
-) -> io::Result<usize>
-    requires { Buffer out.old used × Held plan image.now }
-    ensures printed { IfOk result (λ next. Buffer out.new next) }
-    ensures size { length out.new ≡ length out.old }
-{
-    let mut place = used;
-    let mut unit: u16 = 0;
-    while unit < plan.count {
-        let at = room(writer, out, place)?;
-        place = put_unit(out, at, plan, image, unit);
-        unit = unit + 1;
+    // Room for the next line: the page is written out before if it may not fit.
+    fn make_room(&mut self) -> io::Result<()>
+        requires { Buffer self.old.page }
+        ensures made { IfOk result (λ _. Room self.old.page self.new.page) }
+        ensures failed { OnErr result (self.new.page.used ≡ self.old.page.used) }
+        ensures bytes { self.new.page.bytes.now ≡ self.old.page.bytes.now }
+    {
+        if self.page.room() < printing::LINE_MOST {
+            self.flush()?;
+        }
+        Ok(())
     }
-    Ok(place)
+
+    // Prints a word and a number.
+    fn print(&mut self, word: &[u8], number: usize) -> io::Result<()>
+        requires { Buffer self.old.page × (length word.now ≤ 5) × (number < 100000) }
+        ensures printed { IfOk result (λ _. Printed self.old.page (answer_line word.now number) self.new.page
+            × Buffer self.new.page) }
+        ensures size { length self.new.page.bytes.now ≡ length self.old.page.bytes.now }
+        ensures failed { OnErr result (self.new.page.bytes.now ≡ self.old.page.bytes.now) }
+    {
+        self.make_room()?;
+        put_answer(&mut self.page, word, number);
+        Ok(())
+    }
+
+    // Prints a line a unit.
+    fn show(&mut self, plan: Plan, image: &[u8]) -> io::Result<()>
+        requires { Buffer self.old.page × Held plan image.now }
+        ensures printed { IfOk result (λ _. Buffer self.new.page) }
+        ensures size { length self.new.page.bytes.now ≡ length self.old.page.bytes.now }
+    {
+        for unit in 0..plan.count {
+            self.make_room()?;
+            put_unit(&mut self.page, plan, image, unit);
+        }
+        Ok(())
+    }
+
+    // Prints a form's word and its answer's number; the answer's device is the next.
+    fn tell(&mut self, word: &[u8], answer: Answer) -> io::Result<Option<Device>>
+        requires { Buffer self.old.page × (length word.now ≤ 5) }
+        ensures told { IfOk result (λ next. (next ≡ Some answer.device)
+            × Printed self.old.page (answer_line word.now answer.number) self.new.page
+            × Buffer self.new.page) }
+        ensures size { length self.new.page.bytes.now ≡ length self.old.page.bytes.now }
+        ensures failed { OnErr result (self.new.page.bytes.now ≡ self.old.page.bytes.now) }
+    {
+        self.print(word, usize::from(answer.number))?;
+        Ok(Some(answer.device))
+    }
 }
 
-// Start, and format over an image of exactly the units' length: the answer of the last call.
-fn open(plan: Plan, image: &mut [u8]) -> Answer
-    requires { 4224 ≤ length image.old }
-    ensures { result.number ≡ 0 → start_number plan ≡ 0 }
+// The bytes that a line lists, at the front of a buffer.
+fn bytes_at<const N: usize>(line: &[u8], at: usize, count: usize) -> [u8; N]
+    requires { count ≤ N }
+    ensures { take count result ≡ values_at hex_at line.now at count }
 {
-    let started = Device::start(plan);
-    if started.number != 0 {
-        return started;
-    }
-    let total = base_of(plan, plan.count);
-    let device = started.device;
-    device.format(&mut image[..total])
+    let mut bytes = [0u8; N];
+    script::bytes_into(line, at, count, &mut bytes);
+    bytes
 }
 
 // Begins a write of the bytes that a line lists.
 fn write(device: Device, image: &[u8], line: &[u8], unit: u16, at: usize, count: usize) -> Answer
     requires { count ≤ 256 }
     ensures { Gives result image.now
-        (begin (modelled device) image.now Service unit (values_at Byte line.now at count)) }
+        (begin (modelled device) image.now Service unit (values_at hex_at line.now at count)) }
 {
-    let mut payload = [0u8; 256];
-    script::bytes_into(line, at, count, &mut payload);
+    let payload: [u8; 256] = bytes_at(line, at, count);
     device.begin(image, Role::Service, unit, &payload[..count])
 }
 
@@ -137,209 +129,157 @@ fn write(device: Device, image: &[u8], line: &[u8], unit: u16, at: usize, count:
 fn cut(device: Device, image: &mut [u8], line: &[u8], at: usize, count: usize) -> Answer
     requires { count ≤ 16 }
     ensures { Gives result image.new
-        (cut (modelled device) image.old (values_at Byte line.now at count)) }
+        (cut (modelled device) image.old (values_at hex_at line.now at count)) }
 {
-    let mut page = [0u8; 16];
-    script::bytes_into(line, at, count, &mut page);
+    let page: [u8; 16] = bytes_at(line, at, count);
     device.cut(image, &page[..count])
 }
 
-// Prints the form's word and the answer's number.
-fn tell<W: io::Write>(
-    writer: &mut W,
-    word: &[u8],
-    answer: Answer,
-    out: &mut [u8],
-    used: usize,
-) -> io::Result<Played>
-    requires { Buffer out.old used × (length word.now ≤ 5) }
-    ensures told { IfOk result (λ played. (played.device ≡ answer.device) × (played.bad ≡ false)
-        × Buffer out.new played.used
-        × Wrote out.old (place_for (length out.old) used) (answer_line word.now answer.number)
-        out.new played.used) }
-    ensures failed { OnErr result (out.new ≡ out.old) }
-{
-    let device = answer.device;
-    let next = print(writer, out, used, word, answer.number as usize)?;
-    Ok(Played {
-        device: device,
-        used: next,
-        bad: false,
-    })
-}
-
-// Plays a line after the first.
+// Plays a line after the first: the device after it, or None if the line may not stand there.
+#[tactic(auto, using(script::proofs::Counts::write_count, script::proofs::Counts::cut_count), unfolding(crate::specs::Plays::plays))]
 fn play<W: io::Write>(
-    writer: &mut W,
+    printer: &mut Printer<'_, '_, W>,
     form: Form,
     line: &[u8],
     plan: Plan,
     device: Device,
     image: &mut [u8],
-    out: &mut [u8],
-    used: usize,
-) -> io::Result<Played>
-    requires { (form_of line.now ≡ Is form) × Held plan image.old × Buffer out.old used }
-    ensures played { IfOk result (λ played. Plays form (plays form line.now (modelled device) image.old) played image.new
-        out.old used out.new) }
+) -> io::Result<Option<Device>>
+    requires { (form_of line.now ≡ Some form) × Held plan image.old × Buffer printer.old.page }
+    ensures played { IfOk result (λ next. Plays form (plays form line.now (modelled device) image.old) next image.new
+        printer.old.page printer.new.page) }
     ensures image { image.new ≡ (plays form line.now (modelled device) image.old).image }
-    ensures size { length out.new ≡ length out.old }
+    ensures size { length printer.new.page.bytes.now ≡ length printer.old.page.bytes.now }
 {
     match form {
         // "must be the first line and no other"
-        Form::Plan { .. } => Ok(Played {
-            device: device,
-            used: used,
-            bad: true,
-        }),
-        Form::Write { unit, at, count } => tell(
-            writer,
-            b"write",
-            write(device, image, line, unit, at, count),
-            out,
-            used,
-        ),
-        Form::Step(count) => tell(writer, b"step", device.steps(image, count), out, used),
-        Form::Cut { at, count } => tell(
-            writer,
-            b"cut",
-            cut(device, image, line, at, count),
-            out,
-            used,
-        ),
-        Form::Wake => tell(writer, b"wake", device.wake(image), out, used),
-        Form::Show => Ok(Played {
-            device: device,
-            used: show(writer, out, used, plan, image)?,
-            bad: false,
-        }),
+        Form::Plan { .. } => Ok(None),
+        Form::Write { unit, at, count } => {
+            printer.tell(b"write", write(device, image, line, unit, at, count))
+        }
+        Form::Step(count) => printer.tell(b"step", device.steps(image, count)),
+        Form::Cut { at, count } => printer.tell(b"cut", cut(device, image, line, at, count)),
+        Form::Wake => printer.tell(b"wake", device.wake(image)),
+        Form::Show => {
+            printer.show(plan, image)?;
+            Ok(Some(device))
+        }
     }
 }
 
 // Plays the lines from an offset on, the second of the script and those after it.
 fn play_lines<W: io::Write>(
-    writer: &mut W,
+    printer: &mut Printer<'_, '_, W>,
     text: &[u8],
     from: usize,
     plan: Plan,
     opened: Device,
     image: &mut [u8],
-    out: &mut [u8],
-    printed: usize,
-) -> io::Result<usize>
+) -> io::Result<()>
     requires { (from ≤ length text.now + 1) × (length text.now ≤ 65536) × (0 < from)
-        × Held plan image.old × Buffer out.old printed }
-    ensures printed { IfOk result (λ next. Buffer out.new next) }
-    ensures size { length out.new ≡ length out.old }
+        × Held plan image.old × Buffer printer.old.page }
+    ensures { IfOk result (λ _. Buffer printer.new.page) }
 {
     let mut at = from;
     let mut number: usize = 1;
     let mut device = opened;
-    let mut used = printed;
+    // No `for` goes along these lines: only a line that was read tells where the next begins.
     while at < text.len() {
-        number = number + 1;
-        let read = reader::read_line(text, at);
+        number += 1;
         // "Any line that isn't one of these forms prints `bad` and its decimal line number, and the run ends."
-        let Read::Form { form, start, end } = read else {
-            return print_bad(writer, out, used, number);
+        let Some(Read { form, start, end }) = reader::read_line(text, at) else {
+            return printer.print(b"bad", number);
         };
-        let after = play(
-            writer,
-            form,
-            &text[start..end],
-            plan,
-            device,
-            image,
-            out,
-            used,
-        )?;
-        if after.bad {
-            return print_bad(writer, out, after.used, number);
-        }
-        device = after.device;
-        used = after.used;
+        let Some(next) = play(printer, form, &text[start..end], plan, device, image)? else {
+            return printer.print(b"bad", number);
+        };
+        device = next;
         at = end + 1;
     }
-    Ok(used)
+    Ok(())
 }
 
-// Plays a plan and, unless it is refused, the lines from an offset on.
+// Plays a plan: start, and format over an image of exactly the units' length. Unless one is refused, plays the lines from an offset on.
 fn play_plan<W: io::Write>(
-    writer: &mut W,
+    printer: &mut Printer<'_, '_, W>,
     text: &[u8],
     from: usize,
     plan: Plan,
     image: &mut [u8],
-    out: &mut [u8],
-) -> io::Result<usize>
+) -> io::Result<()>
     requires { (from ≤ length text.now + 1) × (length text.now ≤ 65536) × (0 < from)
-        × (4224 ≤ length image.old) × Buffer out.old 0 }
-    ensures printed { IfOk result (λ next. Buffer out.new next) }
-    ensures size { length out.new ≡ length out.old }
+        × (4224 ≤ length image.old) × Buffer printer.old.page }
+    ensures { IfOk result (λ _. Buffer printer.new.page) }
 {
-    let answer = open(plan, image);
-    let used = print(writer, out, 0, b"plan", answer.number as usize)?;
-    if answer.number != 0 {
-        return Ok(used);
+    let started = Device::start(plan);
+    if started.number != 0 {
+        return printer.print(b"plan", usize::from(started.number));
     }
-    let device = answer.device;
-    let total = base_of(plan, plan.count);
-    play_lines(
-        writer,
-        text,
-        from,
-        plan,
-        device,
-        &mut image[..total],
-        out,
-        used,
-    )
+    let units = &mut image[..base_of(plan, plan.count)];
+    let formatted = started.device.format(units);
+    printer.print(b"plan", usize::from(formatted.number))?;
+    if formatted.number != 0 {
+        return Ok(());
+    }
+    play_lines(printer, text, from, plan, formatted.device, units)
 }
 
 // Plays a script; its first line must be a plan.
+#[tactic(auto, using(script::proofs::Counts::plan_count))]
 fn run<W: io::Write>(
-    writer: &mut W,
+    printer: &mut Printer<'_, '_, W>,
     text: &[u8],
     image: &mut [u8],
-    out: &mut [u8],
-) -> io::Result<usize>
-    requires { (4224 ≤ length image.old) × Buffer out.old 0 }
-    ensures printed { IfOk result (λ next. Buffer out.new next) }
-    ensures size { length out.new ≡ length out.old }
+) -> io::Result<()>
+    requires { (4224 ≤ length image.old) × Buffer printer.old.page }
+    ensures { IfOk result (λ _. Buffer printer.new.page) }
 {
-    if 65536 < text.len() {
-        return print_bad(writer, out, 0, 0);
+    if TEXT_MOST < text.len() {
+        return printer.print(b"bad", 0);
     }
-    if text.len() == 0 {
-        return Ok(0);
+    if text.is_empty() {
+        return Ok(());
     }
-    let read = reader::read_line(text, 0);
-    let Read::Form { form, start, end } = read else {
-        return print_bad(writer, out, 0, 1);
+    let Some(Read { form, start, end }) = reader::read_line(text, 0) else {
+        return printer.print(b"bad", 1);
     };
     let Form::Plan { at, count, page } = form else {
-        return print_bad(writer, out, 0, 1);
+        return printer.print(b"bad", 1);
     };
-    let widths = script::widths_at(&text[start..end], at, count);
     let plan = Plan {
         count: count as u16,
-        widths: widths,
-        page: page,
+        widths: script::widths_at(&text[start..end], at, count),
+        page,
         grouped: false,
         rights: service_rights(),
     };
-    play_plan(writer, text, end + 1, plan, image, out)
+    play_plan(printer, text, end + 1, plan, image)
 }
 
-// Plays a script of any length, and writes out what the buffer still holds. The image has room for the largest plan.
+// Plays a script of any length, and writes out what the page still holds. The image has room for the largest plan.
 pub fn run_all<W: io::Write>(
     writer: &mut W,
     text: &[u8],
     image: &mut [u8],
     out: &mut [u8],
 ) -> io::Result<()>
-    requires { (4224 ≤ length image.old) × Buffer out.old 0 }
+    requires { (4224 ≤ length image.old) × (line_most ≤ length out.old) }
 {
-    let used = run(writer, text, image, out)?;
-    flush(writer, out, used)
+    let mut printer = Printer {
+        writer,
+        page: Page::new(out),
+    };
+    run(&mut printer, text, image)?;
+    printer.flush()
+}
+
+// Plays the script that a reader gives, from its first byte to its end; a byte more than a script may have tells that one is too long.
+pub fn run_input<R: io::Read, W: io::Write>(input: &mut R, writer: &mut W) -> io::Result<()>
+    ensures { IfOk result (λ _. ReadsUpTo 65537 (R.remaining input.old) (R.remaining input.new)) }
+{
+    let mut text = [0u8; TEXT_MOST + 1];
+    let count = read_full(input, &mut text)?;
+    let mut image = [0u8; IMAGE_MOST];
+    let mut out = [0u8; 32768];
+    run_all(writer, &text[..count], &mut image, &mut out)
 }

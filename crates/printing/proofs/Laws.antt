@@ -7,12 +7,10 @@ use lib.Seq.{drop-cons}
 use native.Mathlib.Nat.{add-sub_cancel_left}
 use native.Mathlib.Omega.{arith}
 use Rattle.model.specs.declared.Plan.{Plan}
-use Rattle.model.specs.Layout.{copy_a, copy_b, byte, width, base, total, place, get, copy_of}
-use Rattle.model.specs.Refusals.{start_number}
-use Rattle.model.proofs.RefusalLaws.{start_says}
+use Rattle.model.specs.Layout.{copy_a, copy_b, byte, width, base, place, get, copy_of}
 use Rattle.lookup.specs.declared.Span.{Span}
 use Rattle.lookup.specs.Spans.{span_of, Spans, Sound}
-use Rattle.lookup.proofs.Laws.{looked_up, span_sound, span_inside}
+use Rattle.lookup.proofs.Laws.{span_sound, span_inside}
 use Rattle.printing.specs.Printed.{unit_text, unit_line}
 
 pub take_one : (xs : List ℕ) (i : ℕ) → i < length xs → take 1 (drop i xs) ≡ get_or xs i 0 ∷ []
@@ -28,12 +26,13 @@ pub record Looked (p : Plan) (image : List ℕ) (u : ℕ) (q : Span) : Type 0 wh
   pub sound : Sound q
   pub inside : q.end ≤ length image
 
-pub looked : (p : Plan) (image : List ℕ) (u : ℕ) (q : Span) → start_number p ≡ 0 → total p ≤ length image → u < p.count
-    → Spans p u (length image) q → Looked p image u q
-looked p image u q e long h s =
-    let ok = start_says p e in
-    let is = s.is (looked_up p ok u h (length image) q long s) in
-    record { is = is; sound = span_sound p ok u h q is; inside = span_inside p ok u h (length image) q long is }
+pub looked : (p : Plan) (image : List ℕ) (u : ℕ) (q : Span) → Spans p u (length image) q → Looked p image u q
+looked p image u q s =
+    record {
+      is = s.is;
+      sound = span_sound p s.plan u s.unit q s.is;
+      inside = span_inside p s.plan u s.unit (length image) q s.long s.is;
+    }
 
 -- the parts that begin where the lookup says are its marker and its copies
 pub unit_parts : (p : Plan) (image : List ℕ) (u : ℕ) (q : Span) (first second : ℕ) → Looked p image u q

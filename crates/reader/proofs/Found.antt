@@ -1,40 +1,33 @@
 -- What a caller knows of a form that was read: its line lies in the text from the offset on, and is that form.
-use Prim.Native.Nat.{ℕ, ◌-◌, ◌≤◌, ◌<◌}
-use mathlib.Core.Bool.{Bool, true, false, cond}
-use mathlib.Core.Path.{◌≡◌, refl}
-use mathlib.Core.List.{List}
-use lib.Dec.{ltb}
-use lib.ListN.{length, take, drop}
-use native.Mathlib.Omega.{arith}
+use Rattle.std.proofs.Common.{◌≡◌, refl, sym, ap, arith, ℕ, ◌<◌, Bool, true, false, cond, List, ltb, length, Option, Some, None, IfSome}
+use Rattle.std.proofs.lemmas.Option.{same_Some}
 use borrow.Author.Tests.{ltb-true}
 use Rattle.token.specs.Lines.{line_end, line_at}
 use Rattle.token.proofs.Lines.{line_inside, line_onward}
 use Rattle.script.specs.declared.Form.{Form}
-use Rattle.script.specs.declared.Line.{Line}
-use Rattle.script.specs.declared.Line.TheVariants.{Is, Bad}
 use Rattle.script.specs.Line.{form_of}
-use Rattle.reader.specs.declared.Read.TheVariants as read
-use Rattle.reader.specs.Read.{read_of, read_at}
-
-pub record Found (text : List ℕ) (at : ℕ) (form : Form) (start end : ℕ) : Type 0 where
-  pub starts : start ≡ at
-  pub inside : at < length text
-  pub onward : at ≤ end
-  pub ends : end ≤ length text
-  pub says : form_of (take (end - start) (drop start text)) ≡ Is form
+use Rattle.reader.specs.declared.Read.{Read}
+use Rattle.reader.specs.Read.{read, read_of, read_at}
+use Rattle.reader.specs.Found.{Found}
 
 module _ (text : List ℕ) (at : ℕ) (form : Form) (start end : ℕ) where
-  found_of : (inside : Bool) (line : Line) → ltb at (length text) ≡ inside → form_of (line_at text at) ≡ line
-      → cond inside (read_of line at (line_end text at)) read.Bad ≡ read.Form form start end → Found text at form start end
+  found_of : (inside : Bool) (line : Option Form) → ltb at (length text) ≡ inside → form_of (line_at text at) ≡ line
+      → cond inside (read_of line at (line_end text at)) None ≡ Some (read form start end) → Found text at (read form start end)
   unfolding read_of line_at
-  found_of true (Is f) t l r =
-      let s : start ≡ at = cc in
-      let e : end ≡ line_end text at = cc in
+  found_of true (Some f) t l r =
+      let i = same_Some (read f at (line_end text at)) (read form start end) r in
+      let s : start ≡ at = sym (ap (λ (x : Read). x.start) i) in
+      let e : end ≡ line_end text at = sym (ap (λ (x : Read). x.end) i) in
+      let g : form ≡ f = sym (ap (λ (x : Read). x.form) i) in
       let h : at < length text = ltb-true _ _ t in
       record { starts = s; inside = h; onward = rw e (line_onward text at); ends = rw e (line_inside text at (omega arith)); says = cc }
-  found_of true Bad t l r = let z : ◌≡◌ {A = ℕ} 0 1 = cc in absurd (omega arith)
-  found_of false line t l r = let z : ◌≡◌ {A = ℕ} 0 1 = cc in absurd (omega arith)
+  found_of true None t l r = cc
+  found_of false line t l r = cc
 
-  pub read_found : read_at text at ≡ read.Form form start end → Found text at form start end
+  read_found_of : read_at text at ≡ Some (read form start end) → Found text at (read form start end)
   unfolding read_at
-  read_found r = found_of (ltb at (length text)) (form_of (line_at text at)) refl refl r
+  read_found_of r = found_of (ltb at (length text)) (form_of (line_at text at)) refl refl r
+
+pub read_found : (text : List ℕ) (at : ℕ) (found : Option Read) → found ≡ read_at text at → IfSome found (λ read. Found text at read)
+read_found text at None e = tt
+read_found text at (Some r) e = read_found_of text at r.form r.start r.end (sym e)

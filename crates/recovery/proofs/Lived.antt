@@ -34,9 +34,8 @@ use Rattle.model.proofs.Totals.{turns_saved}
 use Rattle.model.proofs.Paid.{cents_saved}
 use Rattle.store.specs.declared.Answer.{Answer}
 use Rattle.store.specs.Modelled.{modelled, Gives, Starts}
-use Rattle.store.proofs.Laws.{gives_as}
 use Rattle.recovery.specs.Outage.{Fits, Restored}
-use Rattle.recovery.proofs.Laws.{same_call, gave}
+use Rattle.recovery.proofs.Laws.{same_call, gave, gives_as}
 
 -- ---- up to the cut
 run_snoc : (cs : List Call) (c : Call) (o : Outcome) → run (cs ++ (c ∷ [])) o ≡ call c (run cs o)

@@ -3,40 +3,28 @@
 
 ghost use Rattle.std.specs.Prelude.{◌≡◌, ◌≤◌, length};
 ghost use Rattle.model.specs.Layout.{total};
-ghost use Rattle.model.specs.Calls.{record_in, resumed, reloaded};
+ghost use Rattle.model.specs.Calls.{resumed, reloaded};
 ghost use Rattle.model.proofs.RefusalLaws.{PlanOk};
 
 use format::fill;
 use group::{last_of, stands};
-use lookup::span_of;
+use lookup::copy_a;
 use model::{Phase, Plan};
-use refusal::not_ready;
-
-// Copy A of the last unit, as a part of the image.
-fn record_in(plan: Plan, image: &[u8]) -> &[u8]
-    requires { PlanOk plan × (total plan ≤ length image.now) }
-    ensures { result.now ≡ record_in plan image.now }
-{
-    let span = span_of(plan, last_of(plan), image.len());
-    let start = (span.base + span.a) as usize;
-    let end = start + (span.width as usize);
-    &image[start..end]
-}
 
 // The phase after a search for a cleanup: that which it found, or the first member of a standing record, which the payload then is.
-pub fn resume(plan: Plan, payload: &mut [u8], image: &[u8], found: Phase) -> Phase
-    requires { PlanOk plan × (total plan ≤ length image.now) × (length payload.old ≡ 256) }
+#[tactic(auto, using(crate::proofs::Laws::of_record), unfolding(model::specs::Calls::resumes, model::specs::Groups::stands))]
+pub fn resume(plan: Plan, payload: &mut [u8; 256], image: &[u8], found: Phase) -> Phase
+    requires { PlanOk plan × (total plan ≤ length image.now) }
     ensures { (result ≡ resumed plan image.now found)
         × (payload.new ≡ reloaded plan image.now found payload.old) }
 {
-    if not_ready(found) {
+    if found != Phase::Ready || !plan.grouped {
         return found;
     }
-    if plan.grouped {
-        if stands(plan, record_in(plan, image)) {
-            fill(&mut payload[..], record_in(plan, image));
-            return Phase::Grouping { write: 1, made: 0 };
-        }
+    let record = copy_a(plan, image, last_of(plan));
+    if !stands(plan, record) {
+        return found;
     }
-    found
+    fill(payload, record);
+    Phase::Grouping { write: 1, made: 0 }
 }

@@ -7,12 +7,14 @@ use native.Mathlib.Omega.{arith}
 use lib.Dec.{eqb, ltb}
 use lib.ListN.{length, take, drop, length-take}
 use borrow.Author.Tests.{eq-eqb, ne_eqb, lt-ltb, le-ltb}
+use Rattle.std.specs.Prelude.{Option, None, Some, IsSome, MatchOption}
+use Rattle.token.specs.declared.Item.{Item}
 use Rattle.model.proofs.Compare.{below, above, order}
-use Rattle.token.specs.Token.{lost}
+use Rattle.token.specs.Token.{lost, entry_at}
 use Rattle.token.specs.Lines.{line_end, line_at}
-use Rattle.list.specs.declared.Kind.TheVariants.{Entry}
 use Rattle.list.specs.Items.{values_at}
-use Rattle.row.specs.Row.{row_at, row_of, in_rule, lower_of, row_below, line_number}
+use Rattle.row.specs.Row.{head_at, row_at, HasEntries, row_of, in_rule, lower_of, row_below, line_number}
+use Rattle.row.proofs.Row.{formed}
 
 module _ (i : ℕ) (text : List ℕ) (at : ℕ) (done : List ℕ) where
   pub line_missing : length text ≤ at → 12 ≡ line_number i text at done
@@ -39,25 +41,18 @@ module _ (i : ℕ) (text : List ℕ) (at : ℕ) (done : List ℕ) where
     is_from : from ≡ row_at (i + 1) (line_at text at)
     is_from = ef ∙ ap (row_at (i + 1)) is_line
 
-    pub is_row : values_at Entry line from 64 ≡ row_of (i + 1) (line_at text at)
+    pub is_row : values_at entry_at line from 64 ≡ row_of (i + 1) (line_at text at)
     is_row = rw (is_from, is_line)
 
     pub line_formless : from ≡ lost → 12 ≡ line_number i text at done
     unfolding line_number
     line_formless h = rw (lt-ltb at (length text) inside, eq-eqb (row_at (i + 1) (line_at text at)) lost (sym is_from ∙ h))
 
-    judged : (good : Bool) → good ≡ in_rule 0 (lower_of done) (values_at Entry line from 64) → ¬ (from ≡ lost)
-        → line_number i text at done ≡ cond good 0 13
+    pub line_judged : (k : ℕ) → k ≡ cond (in_rule 0 (lower_of done) (values_at entry_at line from 64)) 0 13 → ¬ (from ≡ lost)
+        → k ≡ line_number i text at done
     unfolding line_number
-    judged good e h =
-        rw (lt-ltb at (length text) inside, ne_eqb (row_at (i + 1) (line_at text at)) lost (λ q. h (is_from ∙ q)), ← is_row, ← e)
-
-    module _ (good : Bool) (e : good ≡ in_rule 0 (lower_of done) (values_at Entry line from 64)) (h : ¬ (from ≡ lost)) where
-      pub line_good : good ≡ true → 0 ≡ line_number i text at done
-      line_good g = sym (judged good e h ∙ rw g)
-
-      pub line_bad : good ≡ false → 13 ≡ line_number i text at done
-      line_bad g = sym (judged good e h ∙ rw g)
+    line_judged k e h =
+        sym (rw (lt-ltb at (length text) inside, ne_eqb (row_at (i + 1) (line_at text at)) lost (λ q. h (is_from ∙ q)), ← is_row) (sym e))
 
 -- ---- the row one level lower is all that a line's number looks at of the entries before
 pub by_lower : (i : ℕ) (text : List ℕ) (at : ℕ) (done other : List ℕ) → lower_of done ≡ lower_of other
@@ -75,9 +70,9 @@ lower_held i scratch = held (eqb i 0)
         let n : length (take 64 scratch) - 64 ≡ 0 = omega (arith, length-take 64 scratch) in
         rw n
 
-pub held_judged : (i : ℕ) (scratch row : List ℕ) (good : Bool) → good ≡ in_rule 0 (row_below i scratch) row
-    → good ≡ in_rule 0 (lower_of (row_below i scratch)) row
-held_judged i scratch row good e = e ∙ ap (λ (lower : List ℕ). in_rule 0 lower row) (sym (lower_held i scratch))
+pub held_judged : (i : ℕ) (scratch row : List ℕ) (k : ℕ) → k ≡ cond (in_rule 0 (row_below i scratch) row) 0 13
+    → k ≡ cond (in_rule 0 (lower_of (row_below i scratch)) row) 0 13
+held_judged i scratch row k e = e ∙ ap (λ (lower : List ℕ). cond (in_rule 0 lower row) 0 13) (sym (lower_held i scratch))
 
 -- ---- what 0 says of a line
 pub line_inside : (i : ℕ) (text : List ℕ) (at : ℕ) (done : List ℕ) → line_number i text at done ≡ 0 → at < length text
@@ -108,12 +103,25 @@ unfolding line_number
 line_in_rule i text at done e =
     in_rule_lem (ltb at (length text)) (eqb (row_at (i + 1) (line_at text at)) lost) (in_rule 0 (lower_of done) (row_of (i + 1) (line_at text at))) e
 
--- the line as the code cut it out, and where it found the entries of a line of the form
-pub known_row : (i : ℕ) (text : List ℕ) (at : ℕ) (done : List ℕ) → line_number i text at done ≡ 0 → (end : ℕ) → end ≡ line_end text at
-    → (from : ℕ) → ((l : ℕ) → ¬ (row_at l (take (end - at) (drop at text)) ≡ lost) → from ≡ row_at l (take (end - at) (drop at text)))
-    → values_at Entry (take (end - at) (drop at text)) from 64 ≡ row_of (i + 1) (line_at text at)
-known_row i text at done good end ee from formed =
-    let inside = line_inside i text at done good in
-    let line : List ℕ = take (end - at) (drop at text) in
-    let is = is_line i text at done inside end ee line refl (row_at (i + 1) line) refl in
-    is_row i text at done inside end ee line refl from (formed (i + 1) (λ q. line_formed i text at done good (sym (ap (row_at (i + 1)) is) ∙ q)))
+-- the line as the code cut it out, and what it found before the entries
+module _ (i : ℕ) (text : List ℕ) (at : ℕ) (done : List ℕ) (good : line_number i text at done ≡ 0) (end : ℕ) (ee : end ≡ line_end text at) where
+  abbrev line : List ℕ
+  line = take (end - at) (drop at text)
+
+  some : ¬ (row_at (i + 1) line ≡ lost)
+  some q =
+      let is = is_line i text at done (line_inside i text at done good) end ee line refl (row_at (i + 1) line) refl in
+      line_formed i text at done good (sym (ap (row_at (i + 1)) is) ∙ q)
+
+  pub known_head : (o : Option Item) → MatchOption o ((head_at line).next ≡ lost) (λ head. head ≡ head_at line) → IsSome o
+  known_head None e = absurd (some ((formed (i + 1) line some).0 ∙ e))
+  known_head (Some head) e = refl
+
+  module _ (head : Item) (eh : head ≡ head_at line) where
+    pub known_row : values_at entry_at line head.next 64 ≡ row_of (i + 1) (line_at text at)
+    known_row =
+        let from : head.next ≡ row_at (i + 1) line = rw eh (sym (formed (i + 1) line some).0) in
+        is_row i text at done (line_inside i text at done good) end ee line refl head.next from
+
+    pub known_has : HasEntries line head.next 0
+    known_has = rw eh (formed (i + 1) line some).1

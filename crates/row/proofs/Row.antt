@@ -1,52 +1,53 @@
 -- A line's form, by the code's own tests on what it read.
-use Prim.Native.Nat.{ℕ}
+use Rattle.std.proofs.Common.{◌≡◌, refl, ap, sym, ◌∙◌, ℕ, ◌≤◌, Bool, true, false, cond, ◌&&◌, List, eqb, length, eq-eqb}
 use Prim.Native.Char.{code}
-use mathlib.Core.Path.{◌≡◌, refl, sym, ◌∙◌}
-use mathlib.Core.Bool.{Bool, true, false, cond, ◌&&◌}
-use mathlib.Core.List.{List}
-use lib.Dec.{eqb}
-use lib.ListN.{length}
-use borrow.Author.Tests.{eq-eqb, ne_eqb}
+use borrow.Author.Tests.{eqb-true}
 use Rattle.token.specs.Ascii.{ascii}
-use Rattle.list.specs.declared.Kind.TheVariants.{Entry}
 use Rattle.token.specs.declared.Item.{Item}
+use Rattle.token.specs.Token.{lost, item, eat_at, word_at, entry_at}
+use Rattle.token.proofs.Lost.{lost_word, lost_entry}
 use Rattle.list.specs.declared.Items.{Items}
-use Rattle.token.specs.Token.{lost, eat_at, word_at, entry_at}
 use Rattle.list.specs.List.{items_at}
-use Rattle.row.specs.Row.{row_at}
+use Rattle.row.specs.Row.{head_at, row_at, HasEntries}
 
--- what the code read of a line
-module _ (l : ℕ) (line : List ℕ) (level : Item) (at : ℕ) (row : Items) (end : ℕ)
-    (el : level ≡ entry_at line (word_at line 0 (ascii "(level "))) (ea : at ≡ word_at line level.next (ascii " ("))
-    (er : row ≡ items_at Entry line at 64 0) (ee : end ≡ eat_at line row.next (code ")")) where
-  judged : row_at l line ≡ cond (eqb level.value l && eqb row.count 64 && eqb end (length line)) at lost
+-- ---- what stands before the entries
+module _ (line : List ℕ) (fits : length line ≤ lost) where
+  pub level_lost : entry_at line (word_at line 0 (ascii "(level ")) ≡ item 0 lost → (head_at line).next ≡ lost
+  level_lost e = ap (λ (level : Item). word_at line level.next (ascii " (")) e ∙ lost_word line fits (ascii " (")
+
+  pub head_lost : word_at line 0 (ascii "(level ") ≡ lost → (head_at line).next ≡ lost
+  head_lost e = level_lost (ap (entry_at line) e ∙ lost_entry line fits)
+
+-- ---- what the code read of a line
+module _ (l : ℕ) (line : List ℕ) (head : Item) (row : Items) (end : ℕ)
+    (eh : head ≡ head_at line) (er : row ≡ items_at entry_at line head.next 64 0) (ee : end ≡ eat_at line row.next (code ")")) where
+  judged : row_at l line ≡ cond (eqb head.value l && eqb row.count 64 && eqb end (length line)) head.next lost
   unfolding row_at
-  judged = rw (ee, er, ea, el)
+  judged = rw (ee, er, eh)
 
-  pub other_level : ¬ (level.value ≡ l) → lost ≡ row_at l line
-  other_level h = sym (judged ∙ rw (ne_eqb level.value l h))
+  pub of_form : head.value ≡ l → row.count ≡ 64 → end ≡ length line → head.next ≡ row_at l line
+  of_form is full e = sym (judged ∙ rw (eq-eqb head.value l is, eq-eqb row.count 64 full, eq-eqb end (length line) e))
 
-  module _ (is : level.value ≡ l) where
-    pub other_count_lem : ¬ (row.count ≡ 64) → lost ≡ row_at l line
-    other_count_lem h = sym (judged ∙ rw (eq-eqb level.value l is, ne_eqb row.count 64 h))
+  pub other_form : (head.value ≡ l → row.count ≡ 64 → end ≡ length line → ⊥) → lost ≡ row_at l line
+  other_form h = sym (judged ∙ none (eqb head.value l) (eqb row.count 64) (eqb end (length line))
+      (λ x y z. h (eqb-true head.value l x) (eqb-true row.count 64 y) (eqb-true end (length line) z)))
+    where
+      none : (x y z : Bool) → (x ≡ true → y ≡ true → z ≡ true → ⊥) → cond (x && y && z) head.next lost ≡ lost
+      none true true true h = absurd (h refl refl refl)
+      none true true false h = refl
+      none true false z h = refl
+      none false y z h = refl
 
-    module _ (full : row.count ≡ 64) where
-      pub other_end : ¬ (end ≡ length line) → lost ≡ row_at l line
-      other_end h = sym (judged ∙ rw (eq-eqb level.value l is, eq-eqb row.count 64 full, ne_eqb end (length line) h))
-
-      pub of_form : end ≡ length line → at ≡ row_at l line
-      of_form e = sym (judged ∙ rw (eq-eqb level.value l is, eq-eqb row.count 64 full, eq-eqb end (length line) e))
-
--- a line that is known to be of the form
-pub known_form : (l : ℕ) (line : List ℕ) (level : Item) (at : ℕ) → level ≡ entry_at line (word_at line 0 (ascii "(level "))
-    → at ≡ word_at line level.next (ascii " (") → ¬ (row_at l line ≡ lost)
-    → at ≡ row_at l line
-known_form l line level at el ea h =
-    let row : Items = items_at Entry line at 64 0 in
-    let end : ℕ = eat_at line row.next (code ")") in
-    let is = judged l line level at row end el ea refl refl in
-    go (eqb level.value l && eqb row.count 64 && eqb end (length line)) is
+-- ---- a line that is known to be of the form
+pub formed : (l : ℕ) (line : List ℕ) → ¬ (row_at l line ≡ lost) → (row_at l line ≡ (head_at line).next) × HasEntries line (head_at line).next 0
+unfolding row_at
+formed l line h =
+    let row : Items = items_at entry_at line (head_at line).next 64 0 in
+    go (eqb (head_at line).value l) (eqb row.count 64) (eqb (eat_at line row.next (code ")")) (length line)) refl h
   where
-    go : (formed : Bool) → row_at l line ≡ cond formed at lost → at ≡ row_at l line
-    go true e = sym e
-    go false e = absurd (h e)
+    go : (x y z : Bool) → y ≡ eqb (items_at entry_at line (head_at line).next 64 0).count 64 → ¬ (cond (x && y && z) (head_at line).next lost ≡ lost)
+        → (cond (x && y && z) (head_at line).next lost ≡ (head_at line).next) × HasEntries line (head_at line).next 0
+    go true true true e h = (refl, eqb-true (items_at entry_at line (head_at line).next 64 0).count 64 (sym e))
+    go true true false e h = absurd (h refl)
+    go true false z e h = absurd (h refl)
+    go false y z e h = absurd (h refl)

@@ -1,13 +1,12 @@
 -- Ticket 1, 'Brake curves from the bike maker': a line of a curve's text, its form, the rules for its entries, and its number.
 -- A line is read by the tokens by which the bench reads its script (`crates/token/specs/Token.antt`).
-use Rattle.std.specs.Prelude.{ℕ, ◌+◌, ◌-◌, Bool, true, cond, ◌&&◌, List, [], ◌∷◌, eqb, ltb, leb, length, take, drop}
+use Rattle.std.specs.Prelude.{ℕ, ◌≡◌, ◌+◌, ◌-◌, Bool, true, cond, ◌&&◌, List, [], ◌∷◌, eqb, ltb, leb, length, take, drop}
 use Prim.Native.Char.{code}
 use Rattle.model.specs.Numbers.{BAD-LINE, BAD-ENTRY}
 use Rattle.token.specs.Ascii.{ascii}
 use Rattle.token.specs.declared.Item.{Item}
 use Rattle.token.specs.Token.{lost, eat_at, word_at, entry_at}
 use Rattle.token.specs.Lines.{line_at}
-use Rattle.list.specs.declared.Kind.TheVariants.{Entry}
 use Rattle.list.specs.declared.Items.{Items}
 use Rattle.list.specs.List.{items_at}
 use Rattle.list.specs.Items.{values_at}
@@ -18,13 +17,23 @@ unfoldable pub row_at : ℕ → List ℕ → ℕ
 row_at l line =
     let level : Item = entry_at line (word_at line 0 (ascii "(level ")) in
     let at : ℕ = word_at line level.next (ascii " (") in
-    let row : Items = items_at Entry line at 64 0 in
+    let row : Items = items_at entry_at line at 64 0 in
     let end : ℕ = eat_at line row.next (code ")") in
     cond (eqb level.value l && eqb row.count 64 && eqb end (length line)) at lost
 
+-- what stands before the entries of such a line: its level, and where they begin
+abbrev pub head_at : List ℕ → Item
+head_at line =
+    let level : Item = entry_at line (word_at line 0 (ascii "(level ")) in
+    record { value = level.value; next = word_at line level.next (ascii " (") }
+
+-- what is left of a row of 64 entries, with single spaces between, and the bracket that ends them, after those that were read
+abbrev pub HasEntries : List ℕ → ℕ → ℕ → Type 0
+HasEntries line at read = (items_at entry_at line at (64 - read) read).count ≡ cond (ltb read 64) 64 0
+
 -- the entries of line l
 abbrev pub row_of : ℕ → List ℕ → List ℕ
-row_of l line = values_at Entry line (row_at l line) 64
+row_of l line = values_at entry_at line (row_at l line) 64
 
 -- "each entry is above the same bin one level lower": level 1 has none below it
 abbrev pub higher : List ℕ → ℕ → Bool

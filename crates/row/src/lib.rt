@@ -3,148 +3,123 @@
 // The contracts are equations with specs/Row.antt.
 #![tactic(auto)]
 
-ghost use Rattle.std.specs.Prelude.{◌≡◌, true, ◌||◌, ◌&&◌, ◌++◌, ℕ, ◌+◌, ◌*◌, ◌<◌, ◌≤◌, eqb, ltb, leb, length, take, get_or};
-ghost use Rattle.token.specs.Token.{lost};
+ghost use Rattle.std.specs.Prelude.{◌≡◌, true, cond, ◌||◌, ◌&&◌, ◌++◌, [], ◌∷◌, ℕ, ◌+◌, ◌-◌, ◌*◌, ◌<◌, ◌≤◌, eqb, ltb, leb, length, take, OnOk, IfOk, MatchOption};
+ghost use Rattle.model.specs.Numbers.{BAD-ENTRY, numbered};
+ghost use Rattle.token.specs.Token.{lost, entry_at};
 ghost use Rattle.token.specs.Lines.{line_end, line_at};
-ghost use Rattle.list.specs.declared.Kind.TheVariants.{Entry};
 ghost use Rattle.list.specs.Items.{values_at};
-ghost use Rattle.row.specs.Row.{row_at, row_of, in_rule, small, row_below, line_number};
+ghost use Rattle.row.specs.Row.{head_at, row_at, HasEntries, row_of, in_rule, small, row_below, line_number};
 
-use list::Kind;
-use model::refusals::{BAD_ENTRY, BAD_LINE};
+use list::{Entry, items_at};
+use model::refusals::Refusal;
+use token::{Item, eat, entry, find, word};
 
-// The place of the first of a line's 64 entries, or LOST if the line isn't of the form.
-fn row_at(line: &[u8], level: usize) -> usize
-    ensures { result ≡ row_at level line.now }
-{
-    let number = token::entry(line, token::word(line, 0, b"(level "));
-    let value = number.value;
-    let at = token::word(line, number.next, b" (");
-    let row = list::items_at(Kind::Entry, line, at, 64);
-    let count = row.count;
-    let end = token::eat(line, row.next, b')');
-    if value != level {
-        return token::LOST;
-    }
-    if count != 64 {
-        return token::LOST;
-    }
-    if end != line.len() {
-        return token::LOST;
-    }
-    at
+// The entries of a line of the form that are left to be read: 64, less those that were.
+#[derive(Drop)]
+struct Entries<'a> {
+    line: &'a [u8],
+    at: usize,
+    read: usize,
+    ghost there: { HasEntries line.now at read },
 }
 
-// The rules for one entry of the line after i others: it follows `before` on its line, and is above the same bin j one level lower,
-// which the scratch holds.
-fn in_rule(scratch: &[u16], i: usize, j: usize, before: usize, value: usize) -> bool
-    requires { j < length scratch.now }
-    ensures { result ≡ (leb value 4095 && leb before value && (eqb i 0 || ltb (get_or scratch.now j 0) value)) }
-{
-    if 4095 < value {
-        return false;
+impl Entries<'_> {
+    // The next entry.
+    fn next(&mut self) -> usize
+        requires { self.old.read < 64 }
+        ensures value { values_at entry_at self.old.line.now self.old.at (64 - self.old.read)
+            ≡ result ∷ values_at entry_at self.new.line.now self.new.at (64 - self.new.read) }
+        ensures read { self.new.read ≡ self.old.read + 1 }
+    {
+        let item = entry(self.line, self.at).unwrap();
+        self.at = item.next + 1;
+        self.read += 1;
+        item.value
     }
-    if value < before {
-        return false;
-    }
-    if i == 0 {
-        return true;
-    }
-    let lower = scratch[j] as usize;
-    lower < value
 }
 
-// Judges the entries of the line after i others; false at the first that is out of rule. An entry takes the place of the one that it
-// was held against, since no other bin is held against that one.
-fn row_check(line: &[u8], from: usize, scratch: &mut [u16], i: usize) -> bool
-    requires { 64 ≤ length scratch.old }
-    ensures { (result ≡ in_rule 0 (row_below i scratch.old) (values_at Entry line.now from 64))
-        × (result ≡ true → take 64 scratch.new ≡ values_at Entry line.now from 64)
-        × (length scratch.new ≡ length scratch.old) }
+// What stands before a line's entries: its level, and the place past it, where they begin.
+#[tactic(auto, using(crate::proofs::Row::head_lost, crate::proofs::Row::level_lost))]
+fn head(line: &[u8]) -> Option<Item>
+    ensures { MatchOption result ((head_at line.now).next ≡ lost) (λ head. head ≡ head_at line.now) }
 {
-    let mut j: usize = 0;
-    let mut p = from;
-    let mut before: usize = 0;
-    while j < 64 {
-        let item = token::entry(line, p);
-        let value = item.value;
-        let good = in_rule(&scratch[..], i, j, before, value);
-        if !good {
-            return false;
+    let level = entry(line, word(line, 0, b"(level ")?)?;
+    let next = word(line, level.next, b" (")?;
+    Some(Item { next, ..level })
+}
+
+// A line's 64 entries, if the line is of the form.
+fn row_at(line: &[u8], level: usize) -> Option<Entries<'_>>
+    ensures { MatchOption result (row_at level line.now ≡ lost)
+        (λ row. (row.line.now ≡ line.now) × (row.at ≡ row_at level line.now) × (row.read ≡ 0)) }
+{
+    let head = head(line)?;
+    let row = items_at::<Entry>(line, head.next, 64)?;
+    let end = eat(line, row.next, b')')?;
+    if head.value == level && row.count == 64 && end == line.len() {
+        Some(Entries {
+            line,
+            at: head.next,
+            read: 0,
+        })
+    } else {
+        None
+    }
+}
+
+// The rules for an entry of the line after i others: it follows `before` on its line, and is above `lower`, the same bin one level
+// lower, which level 1 has not.
+fn in_rule(i: usize, lower: u16, before: usize, value: usize) -> bool
+    ensures { result ≡ (leb value 4095 && leb before value && (eqb i 0 || ltb lower value)) }
+{
+    value <= 4095 && before <= value && (i == 0 || usize::from(lower) < value)
+}
+
+// Judges the entries of the line after i others against the row one level lower. An entry takes the place of the one that it was held
+// against, since no other bin is held against that one.
+fn row_check(mut entries: Entries, row: &mut [u16], i: usize) -> Result<(), Refusal>
+    requires { (length row.old ≡ 64) × (entries.read ≡ 0) }
+    ensures number { numbered result ≡ cond (in_rule 0 (cond (eqb i 0) [] row.old) (values_at entry_at entries.entry.line.now entries.entry.at 64)) 0 BAD-ENTRY }
+    ensures row { OnOk result (row.new ≡ values_at entry_at entries.entry.line.now entries.entry.at 64) }
+{
+    let mut before = 0;
+    for bin in row.iter_mut() {
+        let value = entries.next();
+        if !in_rule(i, *bin, before, value) {
+            return Err(Refusal::BadEntry);
         }
-        scratch[j] = value as u16;
+        *bin = value as u16;
         before = value;
-        p = token::eat(line, item.next, b' ');
-        j = j + 1;
     }
-    true
+    Ok(())
 }
 
-// What a line comes to: 0, 12 or 13, and the offset past it.
-#[derive(Clone, Copy)]
-pub struct Past {
-    pub number: u16,
-    pub at: usize,
-}
-
-// Judges the line at an offset of the text, after i others. The scratch holds the row one level lower, and then that of a good line.
-pub fn line_check(text: &[u8], at: usize, scratch: &mut [u16], i: usize) -> Past
+// Judges the line at an offset of the text, after i others: the offset past it. The scratch holds the row one level lower, and then
+// that of a good line.
+pub fn line_check(text: &[u8], at: usize, scratch: &mut [u16], i: usize) -> Result<usize, Refusal>
     requires { (i < 20) × (64 ≤ length scratch.old) }
-    ensures { (result.number ≡ line_number i text.now at (row_below i scratch.old))
-        × (result.number ≡ 0 → (result.at ≡ line_end text.now at + 1)
-        × (take 64 scratch.new ≡ row_of (i + 1) (line_at text.now at)))
-        × (length scratch.new ≡ length scratch.old) }
+    ensures number { numbered result ≡ line_number i text.now at (row_below i scratch.old) }
+    ensures past { IfOk result (λ next. next ≡ line_end text.now at + 1) }
+    ensures row { OnOk result (take 64 scratch.new ≡ row_of (i + 1) (line_at text.now at)) }
+    ensures size { length scratch.new ≡ length scratch.old }
 {
     if text.len() <= at {
-        return Past {
-            number: BAD_LINE,
-            at: at,
-        };
+        return Err(Refusal::BadLine);
     }
-    let end = token::find(text, at, text.len(), b'\n');
-    let from = row_at(&text[at..end], i + 1);
-    if from == token::LOST {
-        return Past {
-            number: BAD_LINE,
-            at: end,
-        };
-    }
-    let good = row_check(&text[at..end], from, &mut scratch[..], i);
-    if good {
-        return Past {
-            number: 0,
-            at: end + 1,
-        };
-    }
-    Past {
-        number: BAD_ENTRY,
-        at: at,
-    }
+    let end = find(text, at, text.len(), b'\n');
+    let line = &text[at..end];
+    let entries = row_at(line, i + 1).ok_or(Refusal::BadLine)?;
+    row_check(entries, &mut scratch[..64], i)?;
+    Ok(end + 1)
 }
 
-// The place of the first entry of a line that is known to be of the form, so that its entries need not be read to find it.
-fn entries_at(line: &[u8]) -> usize
-    ensures { (l : ℕ) → ¬ (row_at l line.now ≡ lost) → result ≡ row_at l line.now }
+// Reads a line's entries, known to be small, into the row.
+fn row_into(mut entries: Entries, row: &mut [u16])
+    requires { (length row.old ≡ 64) × (entries.read ≡ 0) × (small (values_at entry_at entries.line.now entries.at 64) ≡ true) }
+    ensures { row.new ≡ values_at entry_at entries.entry.line.now entries.entry.at 64 }
 {
-    let level = token::entry(line, token::word(line, 0, b"(level "));
-    token::word(line, level.next, b" (")
-}
-
-// Reads a line's entries, known to be small, into the table after those of i lines.
-fn row_into(line: &[u8], from: usize, table: &mut [u16], i: usize)
-    requires { (i < 20) × (1280 ≤ length table.old) × (small (values_at Entry line.now from 64) ≡ true) }
-    ensures { (take (64 * i + 64) table.new
-        ≡ take (64 * i) table.old ++ values_at Entry line.now from 64)
-        × (length table.new ≡ length table.old) }
-{
-    let mut at = 64 * i;
-    let end = at + 64;
-    let mut p = from;
-    while at < end {
-        let item = token::entry(line, p);
-        table[at] = item.value as u16;
-        p = token::eat(line, item.next, b' ');
-        at = at + 1;
+    for bin in row.iter_mut() {
+        *bin = entries.next() as u16;
     }
 }
 
@@ -155,8 +130,14 @@ pub fn line_into(text: &[u8], at: usize, table: &mut [u16], i: usize) -> usize
         ≡ take (64 * i) table.old ++ row_of (i + 1) (line_at text.now at))
         × (length table.new ≡ length table.old) }
 {
-    let end = token::find(text, at, text.len(), b'\n');
-    let from = entries_at(&text[at..end]);
-    row_into(&text[at..end], from, &mut table[..], i);
+    let end = find(text, at, text.len(), b'\n');
+    let line = &text[at..end];
+    let head = head(line).unwrap();
+    let entries = Entries {
+        line,
+        at: head.next,
+        read: 0,
+    };
+    row_into(entries, &mut table[64 * i..64 * i + 64]);
     end + 1
 }

@@ -1,9 +1,11 @@
 -- The search for a bad marker, a unit at a time: b is where unit u begins.
 use Prim.Native.Nat.{ℕ, zero, suc, ◌+◌, ◌-◌, ◌≤◌, ◌<◌}
 use mathlib.Core.Path.{◌≡◌, refl, ap, sym, ◌∙◌}
-use mathlib.Core.List.{List}
+use mathlib.Core.List.{List, [], ◌∷◌, ◌++◌}
 use mathlib.Core.Option.{Option, none, some}
-use mathlib.Core.Bool.{true, false, ◌||◌}
+use mathlib.Core.Bool.{Bool, true, false, ◌||◌}
+use Rattle.std.specs.List.{list_any, range_with_len}
+use Rattle.std.proofs.lemmas.List.Folds.{list_any-append}
 use native.Mathlib.Omega.{arith}
 use lib.ListN.{get_or}
 use borrow.Author.Tests.{eq-eqb, ne_eqb}
@@ -12,11 +14,18 @@ use Rattle.model.specs.declared.Phase.{Phase}
 use Rattle.model.specs.declared.Phase.TheVariants.{Ready, Recovering}
 use Rattle.model.specs.Marker.{OK, is_foreign, direction}
 use Rattle.model.specs.Refusals.{any_foreign}
-use Rattle.model.specs.Layout.{marker, base, get}
+use Rattle.model.specs.Layout.{marker, base, total, get}
+use Rattle.model.proofs.RefusalLaws.{PlanOk}
+use Rattle.model.proofs.LayoutLaws.{base_bound, unit_some}
 use Rattle.model.specs.Calls.{lowest_bad, cleanup_of, cleanup_from}
-use Rattle.search.specs.declared.Found.{Found}
-use Rattle.search.specs.declared.Found.TheVariants.{At, Nothing}
+use Rattle.std.specs.Prelude.{None, Some}
+use Rattle.std.specs.Prelude as prelude
+use Rattle.search.specs.declared.Bad.{Bad}
 use Rattle.search.specs.Found.{lowest_from, found}
+
+-- a unit's marker lies before the end of the last unit
+pub marker_inside : (p : Plan) → PlanOk p → (u : ℕ) → u < p.count → base p u < total p
+marker_inside p ok u h = omega (arith, base_bound p ok u p.count h, unit_some p ok u)
 
 module _ (p : Plan) (image : List ℕ) (u b : ℕ) (is : b ≡ base p u) where
   pub marker_at : get_or image b 0 ≡ get p image u marker
@@ -30,22 +39,22 @@ module _ (p : Plan) (image : List ℕ) (u b : ℕ) (is : b ≡ base p u) where
       let one : u + 1 ≡ suc u = omega arith in
       rw (more, one, eq-eqb (get p image u marker) OK (sym marker_at ∙ e))
 
-  pub search_stop : u < p.count → ¬ (get_or image b 0 ≡ OK) → At u (get_or image b 0) ≡ found p image (lowest_from p image u)
+  pub search_stop : u < p.count → ¬ (get_or image b 0 ≡ OK) → Some (record { unit = u; marker = get_or image b 0 }) ≡ found p image (lowest_from p image u)
   unfolding lowest_bad
   search_stop h e =
       let more : p.count - u ≡ suc (p.count - (u + 1)) = omega arith in
       rw (more, marker_at, ne_eqb (get p image u marker) OK (λ q. e (marker_at ∙ q)))
 
-pub search_end : (p : Plan) (image : List ℕ) (u : ℕ) → p.count ≤ u → Nothing ≡ found p image (lowest_from p image u)
+pub search_end : (p : Plan) (image : List ℕ) (u : ℕ) → p.count ≤ u → None ≡ found p image (lowest_from p image u)
 unfolding lowest_bad
 search_end p image u h =
     let none : p.count - u ≡ 0 = omega arith in
     rw none
 
 -- ---- what the calls make of it
-abbrev pub cleaned : Found → Phase
-cleaned Nothing = Ready
-cleaned (At u m) = Recovering u 0 (direction m)
+abbrev pub cleaned : prelude.Option Bad → Phase
+cleaned None = Ready
+cleaned (Some bad) = Recovering bad.unit 0 (direction bad.marker)
 
 pub found_cleaned : (p : Plan) (image : List ℕ) (u : ℕ) → cleaned (found p image (lowest_from p image u)) ≡ cleanup_from p image u
 found_cleaned p image u = go (lowest_from p image u)
@@ -54,9 +63,9 @@ found_cleaned p image u = go (lowest_from p image u)
     go none = refl
     go (some u) = refl
 
-abbrev pub named : Found → Option ℕ
-named Nothing = none
-named (At u m) = some u
+abbrev pub named : prelude.Option Bad → Option ℕ
+named None = none
+named (Some bad) = some bad.unit
 
 -- the search finds the unit that inspect names
 pub found_named : (p : Plan) (image : List ℕ) → named (found p image (lowest_from p image 0)) ≡ lowest_bad p image p.count 0
@@ -68,24 +77,22 @@ found_named p image =
     go none = refl
     go (some u) = refl
 
--- ---- the search for a foreign marker, from the highest unit down: b is where unit n - 1 begins
-module _ (p : Plan) (image : List ℕ) (n b : ℕ) (more : 0 < n) (is : b ≡ base p (n - 1)) where
-  abbrev markers : ℕ → ℕ
-  markers u = get p image u marker
+-- ---- the search for a foreign marker
+range_more : (a b n : ℕ) → a + n ≡ b → range_with_len a (suc n) ≡ range_with_len a n ++ b ∷ []
+range_more a b zero e = ap (λ (k : ℕ). k ∷ []) (omega arith)
+range_more a b (suc n) e = ap (λ (xs : List ℕ). a ∷ xs) (range_more (a + 1) b n (omega arith))
 
-  foreign_more : any_foreign markers n ≡ (is_foreign (get_or image b 0) || any_foreign markers (n - 1))
-  unfolding any_foreign
-  foreign_more =
-      let one : n ≡ suc (n - 1) = omega arith in
-      ap (any_foreign markers) one ∙ ap (λ (m : ℕ). is_foreign m || any_foreign markers (n - 1)) (sym (marker_at p image (n - 1) b is))
+last_first : (x y : Bool) → x || (y || false) ≡ y || x
+last_first true true = refl
+last_first true false = refl
+last_first false true = refl
+last_first false false = refl
 
-  pub foreign_found : is_foreign (get_or image b 0) ≡ true → true ≡ any_foreign markers n
-  foreign_found e = sym (foreign_more ∙ rw e)
-
-  pub foreign_passed : is_foreign (get_or image b 0) ≡ false → any_foreign markers (n - 1) ≡ any_foreign markers n
-  foreign_passed e = sym (foreign_more ∙ rw e)
-
-pub foreign_none : (p : Plan) (image : List ℕ) (n : ℕ) → n ≤ 0 → false ≡ any_foreign (λ u. get p image u marker) n
+-- all units from the lowest up, as the search goes, are those from the highest down
+pub range_foreign : (markers : ℕ → ℕ) (n : ℕ) → list_any (λ u. is_foreign (markers u)) (range_with_len 0 n) ≡ any_foreign markers n
 unfolding any_foreign
-foreign_none p image zero h = refl
-foreign_none p image (suc n) h = absurd (omega arith)
+range_foreign markers zero = refl
+range_foreign markers (suc n) =
+    let test = λ (u : ℕ). is_foreign (markers u) in
+    ap (list_any test) (range_more 0 n n (omega arith)) ∙ list_any-append test (range_with_len 0 n) (n ∷ [])
+    ∙ rw (range_foreign markers n) (last_first (any_foreign markers n) (is_foreign (markers n)))

@@ -1,8 +1,9 @@
 -- The library's structs as the model's records, field by field, and what every call's contract says with them.
-use Rattle.std.specs.Prelude.{ℕ, ◌≡◌, List}
+use Rattle.std.specs.Prelude.{ℕ, ◌≡◌, List, Result, Ok, Err}
 use Rattle.store.specs.declared.Device.{Device}
 use Rattle.store.specs.declared.Answer.{Answer}
-use Rattle.store.specs.declared.Total.{Total}
+use Rattle.model.specs.declared.refusals.Refusal.{Refusal}
+use Rattle.model.specs.Numbers.{numbered}
 use Rattle.model.specs.declared.Plan.{Plan}
 use Rattle.model.specs.declared.Phase.{Phase}
 use Rattle.model.specs.Calls as model
@@ -25,7 +26,11 @@ pub record Starts (r : Answer) (a : model.Answer) : Type 0 where
   pub number : r.number ≡ a.number
   pub device : modelled r.device ≡ a.device
 
--- a total is looked at, and has neither
-pub record Shows (r : Total) (t : model.Total) : Type 0 where
-  pub number : r.number ≡ t.number
-  pub amount : r.amount ≡ t.amount
+-- a total is looked at, and has neither; refused, it shows 0
+abbrev pub shown : Result ℕ Refusal → ℕ
+shown (Ok amount) = amount
+shown (Err e) = 0
+
+pub record Shows (r : Result ℕ Refusal) (t : model.Total) : Type 0 where
+  pub number : numbered r ≡ t.number
+  pub amount : shown r ≡ t.amount

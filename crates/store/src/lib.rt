@@ -4,24 +4,27 @@
 #![tactic(auto)]
 
 ghost use Rattle.std.specs.Prelude.{◌≡◌};
+ghost use Rattle.model.specs.Numbers.{number_of, numbered};
 ghost use Rattle.model.specs.Refusals.{read_number};
 ghost use Rattle.model.specs.Calls.{view, start, format, begin, ride, group, paid_ride, step, wake, cut, read, total_of, inspect};
 ghost use Rattle.model.specs.Steps.{steps};
+ghost use Rattle.refusal.specs.Seen.{seen};
 ghost use Rattle.store.specs.Modelled.{modelled, blanked, Gives, Starts, Shows};
 
-use advance::{advance, advance_by};
+use advance::{Progress, advance, advance_by};
 use amount::amount_of;
 use format::{format_units, zero_filled};
 use group::record_of;
-use grouping::group_number;
-use lookup::{device_number, plan_number, span_of};
+use grouping::check_group;
+use lookup::{check_plan, copy_a};
 use mirror::tear_on;
+use model::refusals::Refusal;
 use model::{Inspection, NOTHING, Phase, Plan, Rights, Role};
-use refusal::{begin_number, cut_number, format_number, read_number, wake_number};
+use refusal::View;
 use resume::resume;
-use ride::{ridden, ride_number, total_number};
-use search::{Found, cleanup_from, lowest_bad};
-use till::{fare, paid_number};
+use ride::{check_ride, check_total, ridden};
+use search::{cleanup_from, lowest_bad};
+use till::{check_paid, fare};
 
 // `stores` counts the completed stores, for the memory chip's rating.
 #[derive(Clone, Copy)]
@@ -32,6 +35,7 @@ pub struct Device {
     pub stores: u32,
 }
 
+// Document 01 asks by name for "the number and the next device", so the refusal is its number here, and 0 is accepted.
 // The device stands first: with the number before it a pass takes 130 instructions more, in copies (docs/tickets/05.md).
 #[derive(Clone, Copy)]
 pub struct Answer {
@@ -39,33 +43,73 @@ pub struct Answer {
     pub number: u16,
 }
 
-// A unit's total; 0 when refused.
-#[derive(Clone, Copy)]
-pub struct Total {
-    pub amount: u64,
-    pub number: u16,
+// The number of what a call comes to: 0, or its refusal's.
+pub fn number_of(outcome: Result<(), Refusal>) -> u16
+    ensures { result ≡ numbered outcome }
+{
+    match outcome {
+        Ok(()) => 0,
+        Err(refusal) => refusal.number(),
+    }
 }
 
 // A device with a zero payload.
-fn blank(plan: Plan, phase: Phase, stores: u32) -> Device
-    ensures { modelled result ≡ blanked plan phase stores }
+fn blank(plan: Plan, phase: Phase) -> Device
+    ensures { modelled result ≡ blanked plan phase 0 }
 {
     Device {
-        plan: plan,
+        plan,
         payload: [0u8; 256],
-        phase: phase,
-        stores: stores,
+        phase,
+        stores: 0,
     }
 }
 
 impl Device {
+    // What a call is judged by.
+    fn view<'a>(&'a self, image: &'a [u8]) -> View<'a>
+        ensures seen { seen result ≡ view (modelled self.now) image.now }
+        ensures plan { result.plan ≡ self.now.plan }
+        ensures image { result.image.now ≡ image.now }
+    {
+        View {
+            plan: self.plan,
+            payload: &self.payload,
+            phase: self.phase,
+            image,
+        }
+    }
+
+    // The device as it came.
+    fn refused(self, refusal: Refusal) -> Answer
+        ensures { result ≡ record { number = number_of refusal; device = self } }
+    {
+        Answer {
+            number: refusal.number(),
+            device: self,
+        }
+    }
+
+    // The device at a phase, with a payload.
+    fn at(self, phase: Phase, payload: [u8; 256]) -> Answer
+        ensures { result ≡ record { number = 0; device = record { plan = self.plan; payload = payload; phase = phase; stores = self.stores } } }
+    {
+        Answer {
+            number: 0,
+            device: Device {
+                payload,
+                phase,
+                ..self
+            },
+        }
+    }
+
     // A device for a plan: Cold, with a zero payload and no store counted. Refused (1, 2, 17): the device that is all zeros but for a
     // page of 1, and grants nothing.
     pub fn start(plan: Plan) -> Answer
         ensures { Starts result (start plan) }
     {
-        let number = plan_number(plan);
-        if number != 0 {
+        if let Err(refusal) = check_plan(plan) {
             let none = Plan {
                 count: 0,
                 widths: [0u16; 8],
@@ -77,14 +121,11 @@ impl Device {
                     service: [NOTHING; 8],
                 },
             };
-            return Answer {
-                number: number,
-                device: blank(none, Phase::Cold, 0),
-            };
+            return blank(none, Phase::Cold).refused(refusal);
         }
         Answer {
             number: 0,
-            device: blank(plan, Phase::Cold, 0),
+            device: blank(plan, Phase::Cold),
         }
     }
 
@@ -92,20 +133,13 @@ impl Device {
     pub fn format(self, image: &mut [u8]) -> Answer
         ensures { Gives result image.new (format (modelled self) image.old) }
     {
-        let plan = self.plan;
-        let phase = self.phase;
-        let payload = self.payload;
-        let number = format_number(plan, &payload, phase, &image[..]);
-        if number != 0 {
-            return Answer {
-                number: number,
-                device: self,
-            };
+        if let Err(refusal) = self.view(image).check_format() {
+            return self.refused(refusal);
         }
-        format_units(plan, &mut image[..]);
+        format_units(self.plan, image);
         Answer {
             number: 0,
-            device: blank(plan, Phase::Ready, 0),
+            device: blank(self.plan, Phase::Ready),
         }
     }
 
@@ -114,30 +148,10 @@ impl Device {
     pub fn begin(self, image: &[u8], role: Role, unit: u16, payload: &[u8]) -> Answer
         ensures { Gives result image.now (begin (modelled self) image.now role unit payload.now) }
     {
-        let plan = self.plan;
-        let phase = self.phase;
-        let stores = self.stores;
-        let old = self.payload;
-        let number = begin_number(plan, &old, phase, image, role, unit, payload.len());
-        if number != 0 {
-            return Answer {
-                number: number,
-                device: self,
-            };
+        if let Err(refusal) = self.view(image).check_begin(role, unit, payload.len()) {
+            return self.refused(refusal);
         }
-        let held = zero_filled(payload);
-        Answer {
-            number: 0,
-            device: Device {
-                plan: plan,
-                payload: held,
-                phase: Phase::Writing {
-                    unit: unit,
-                    made: 0,
-                },
-                stores: stores,
-            },
-        }
+        self.at(Phase::Writing { unit, made: 0 }, zero_filled(payload))
     }
 
     // Takes the turns of a ride: begins a write of unit 0, of the total that it holds and the turns. Refused: 1 to 5, 16 where unit 0
@@ -145,27 +159,13 @@ impl Device {
     pub fn ride(self, image: &[u8], turns: u64) -> Answer
         ensures { Gives result image.now (ride (modelled self) image.now turns) }
     {
-        let plan = self.plan;
-        let phase = self.phase;
-        let stores = self.stores;
-        let payload = self.payload;
-        let number = ride_number(plan, &payload, phase, image, turns);
-        if number != 0 {
-            return Answer {
-                number: number,
-                device: self,
-            };
+        if let Err(refusal) = check_ride(self.view(image), turns) {
+            return self.refused(refusal);
         }
-        let summed = ridden(plan.page, image, turns);
-        Answer {
-            number: 0,
-            device: Device {
-                plan: plan,
-                payload: summed,
-                phase: Phase::Writing { unit: 0, made: 0 },
-                stores: stores,
-            },
-        }
+        self.at(
+            Phase::Writing { unit: 0, made: 0 },
+            ridden(self.plan.page, image, turns),
+        )
     }
 
     // Takes a group: two to four members that are saved together, each a byte for its unit and that unit's payload. The steps write the
@@ -174,27 +174,13 @@ impl Device {
     pub fn group(self, image: &[u8], bytes: &[u8]) -> Answer
         ensures { Gives result image.now (group (modelled self) image.now bytes.now) }
     {
-        let plan = self.plan;
-        let phase = self.phase;
-        let stores = self.stores;
-        let payload = self.payload;
-        let number = group_number(plan, &payload, phase, image, bytes);
-        if number != 0 {
-            return Answer {
-                number: number,
-                device: self,
-            };
+        if let Err(refusal) = check_group(self.view(image), bytes) {
+            return self.refused(refusal);
         }
-        let record = record_of(plan, bytes);
-        Answer {
-            number: 0,
-            device: Device {
-                plan: plan,
-                payload: record,
-                phase: Phase::Grouping { write: 0, made: 0 },
-                stores: stores,
-            },
-        }
+        self.at(
+            Phase::Grouping { write: 0, made: 0 },
+            record_of(self.plan, bytes),
+        )
     }
 
     // Takes the turns of a paid ride: the group of unit 0, with its total and the turns, and of unit 1, with its cents and the price.
@@ -203,49 +189,34 @@ impl Device {
     pub fn paid_ride(self, image: &[u8], turns: u64) -> Answer
         ensures { Gives result image.now (paid_ride (modelled self) image.now turns) }
     {
-        let plan = self.plan;
-        let phase = self.phase;
-        let stores = self.stores;
-        let payload = self.payload;
-        let number = paid_number(plan, &payload, phase, image, turns);
-        if number != 0 {
-            return Answer {
-                number: number,
-                device: self,
-            };
+        if let Err(refusal) = check_paid(self.view(image), turns) {
+            return self.refused(refusal);
         }
-        let members = fare(plan, image, turns);
-        let first = record_of(plan, &members);
-        let grouping = Phase::Grouping { write: 0, made: 0 };
-        Answer {
-            number: 0,
-            device: Device {
-                plan: plan,
-                payload: first,
-                phase: grouping,
-                stores: stores,
-            },
-        }
+        let members = fare(self.plan, image, turns);
+        let record = record_of(self.plan, &members);
+        self.at(Phase::Grouping { write: 0, made: 0 }, record)
     }
 
     // Makes the next store of a write, a group or a cleanup, one byte, and counts it. Refused: 1 to 5.
     pub fn step(self, image: &mut [u8]) -> Answer
         ensures { Gives result image.new (step (modelled self) image.old) }
     {
-        let plan = self.plan;
         let mut payload = self.payload;
-        let phase = self.phase;
-        let stores = self.stores;
-        let after = advance(plan, &mut payload[..], phase, stores, &mut image[..]);
-        let reached = after.phase;
-        let made = after.stores;
+        let from = Progress {
+            phase: self.phase,
+            stores: self.stores,
+        };
+        let (reached, number) = match advance(self.plan, &mut payload, from, image) {
+            Ok(next) => (next, 0),
+            Err(refusal) => (from, refusal.number()),
+        };
         Answer {
-            number: after.number,
+            number,
             device: Device {
-                plan: plan,
-                payload: payload,
-                phase: reached,
-                stores: made,
+                plan: self.plan,
+                payload,
+                phase: reached.phase,
+                stores: reached.stores,
             },
         }
     }
@@ -254,21 +225,19 @@ impl Device {
     pub fn steps(self, image: &mut [u8], count: u16) -> Answer
         ensures { Gives result image.new (steps count (modelled self) image.old) }
     {
-        let plan = self.plan;
         let mut payload = self.payload;
-        let phase = self.phase;
-        let stores = self.stores;
-        let after = advance_by(plan, &mut payload[..], phase, stores, &mut image[..], count);
-        let number = after.number;
-        let next = after.phase;
-        let counted = after.stores;
+        let from = Progress {
+            phase: self.phase,
+            stores: self.stores,
+        };
+        let (last, ended) = advance_by(self.plan, &mut payload, from, image, count);
         Answer {
-            number: number,
+            number: number_of(ended),
             device: Device {
-                plan: plan,
-                payload: payload,
-                phase: next,
-                stores: counted,
+                plan: self.plan,
+                payload,
+                phase: last.phase,
+                stores: last.stores,
             },
         }
     }
@@ -278,28 +247,13 @@ impl Device {
     pub fn wake(self, image: &[u8]) -> Answer
         ensures { Gives result image.now (wake (modelled self) image.now) }
     {
-        let plan = self.plan;
-        let phase = self.phase;
+        if let Err(refusal) = self.view(image).check_wake() {
+            return self.refused(refusal);
+        }
         let mut payload = self.payload;
-        let number = wake_number(plan, &payload, phase, image);
-        if number != 0 {
-            return Answer {
-                number: number,
-                device: self,
-            };
-        }
-        let kept = self.stores;
-        let found = cleanup_from(plan, image, 0);
-        let onward = resume(plan, &mut payload[..], image, found);
-        Answer {
-            number: 0,
-            device: Device {
-                plan: plan,
-                payload: payload,
-                phase: onward,
-                stores: kept,
-            },
-        }
+        let found = cleanup_from(self.plan, image, 0);
+        let phase = resume(self.plan, &mut payload, image, found);
+        self.at(phase, payload)
     }
 
     // The device that a power cut leaves: the page around the next store, if there is one, is torn, and has these bytes; but a marker
@@ -307,93 +261,48 @@ impl Device {
     pub fn cut(self, image: &mut [u8], page: &[u8]) -> Answer
         ensures { Gives result image.new (cut (modelled self) image.old page.now) }
     {
-        let plan = self.plan;
-        let payload = self.payload;
-        let phase = self.phase;
-        let count = self.stores;
-        let number = cut_number(plan, &payload, phase, &image[..], page.len());
-        if number != 0 {
-            return Answer {
-                number: number,
-                device: self,
-            };
+        if let Err(refusal) = self.view(image).check_cut(page.len()) {
+            return self.refused(refusal);
         }
-        tear_on(plan, &payload, phase, &mut image[..], page);
-        let zeros = [0u8; 256];
-        Answer {
-            number: 0,
-            device: Device {
-                plan: plan,
-                payload: zeros,
-                phase: Phase::Cold,
-                stores: count,
-            },
-        }
+        tear_on(self.plan, &self.payload, self.phase, image, page);
+        self.at(Phase::Cold, [0u8; 256])
     }
 
-    // 0, or why read is refused: 1 to 6, 22 where the role may not see the unit, or 8, in this order.
-    pub fn read_number(self, image: &[u8], role: Role, unit: u16) -> u16
-        ensures { result ≡ read_number (view (modelled self) image.now) role unit }
+    // Whether read is refused: 1 to 6, 22 where the role may not see the unit, or 8, in this order.
+    pub fn check_read(self, image: &[u8], role: Role, unit: u16) -> Result<(), Refusal>
+        ensures { numbered result ≡ read_number (view (modelled self) image.now) role unit }
     {
-        let plan = self.plan;
-        let phase = self.phase;
-        let payload = self.payload;
-        read_number(plan, &payload, phase, image, role, unit)
+        self.view(image).check_read(role, unit)
     }
 
     // Copy A of a unit, as a part of the image; an empty part when refused.
     pub fn read(self, image: &[u8], role: Role, unit: u16) -> &[u8]
         ensures { result.now ≡ read (modelled self) image.now role unit }
     {
-        let plan = self.plan;
-        let phase = self.phase;
-        let payload = self.payload;
-        let number = read_number(plan, &payload, phase, image, role, unit);
-        if number != 0 {
-            return &image[..0];
+        match self.check_read(image, role, unit) {
+            Ok(()) => copy_a(self.plan, image, unit),
+            Err(_) => &image[..0],
         }
-        let span = span_of(plan, unit, image.len());
-        let start = (span.base + span.a) as usize;
-        let end = start + (span.width as usize);
-        &image[start..end]
     }
 
     // The total that a unit holds, taken from copy A. Refused: as read, and 16 where the unit isn't eight bytes wide.
-    pub fn total(self, image: &[u8], role: Role, unit: u16) -> Total
+    pub fn total(self, image: &[u8], role: Role, unit: u16) -> Result<u64, Refusal>
         ensures { Shows result (total_of (modelled self) image.now role unit) }
     {
-        let plan = self.plan;
-        let phase = self.phase;
-        let payload = self.payload;
-        let number = total_number(plan, &payload, phase, image, role, unit);
-        if number != 0 {
-            return Total {
-                amount: 0,
-                number: number,
-            };
-        }
-        let amount = amount_of(self.read(image, role, unit));
-        Total {
-            amount: amount,
-            number: 0,
-        }
+        check_total(self.view(image), role, unit)?;
+        Ok(amount_of(self.read(image, role, unit)))
     }
 
     // The lowest unit whose marker isn't OK, or that there is none. Refused: 1 to 4.
     pub fn inspect(self, image: &[u8]) -> Inspection
         ensures { result ≡ inspect (modelled self) image.now }
     {
-        let plan = self.plan;
-        let phase = self.phase;
-        let payload = self.payload;
-        let number = device_number(plan, &payload, phase, image.len());
-        if number != 0 {
-            return Inspection::Refused(number);
+        if let Err(refusal) = self.view(image).check_device() {
+            return Inspection::Refused(refusal.number());
         }
-        let lowest = lowest_bad(plan, image, 0);
-        match lowest {
-            Found::At { unit, marker: _ } => Inspection::Suspect(unit),
-            Found::Nothing => Inspection::AllOk,
+        match lowest_bad(self.plan, image, 0) {
+            Some(bad) => Inspection::Suspect(bad.unit),
+            None => Inspection::AllOk,
         }
     }
 }

@@ -1,2 +1,4 @@
 pub mod Laws
 pub mod Examples
+pub mod Decimal
+pub mod Glyphs

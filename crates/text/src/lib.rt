@@ -1,86 +1,107 @@
-// Pieces of a printed line: a byte, a text, a byte in hexadecimal, a number in decimal. Each function is handed a lent buffer and a
-// place in it, and hands back the place past its text. The `requires` ask for the most bytes that a text can take, and the `ensures`
-// give that bound back.
+// Pieces of a printed line: a byte, a text, a byte in hexadecimal, a number in decimal. A `Page` is a lent buffer whose front is text;
+// each piece goes behind it. The `requires` ask for the most bytes that a text can take, and the `ensures` give that bound back.
 #![tactic(auto)]
 
-ghost use Rattle.std.specs.Prelude.{◌≡◌, [], ◌∷◌, ◌+◌, ◌*◌, ◌<◌, ◌≤◌, length};
-ghost use Rattle.text.specs.Text.{digit, hex, bytes_text, digit_at, decimal};
-ghost use Rattle.text.specs.Wrote.{Wrote};
+ghost use Rattle.std.specs.Prelude.{◌≡◌, [], ◌∷◌, ◌+◌, ◌*◌, ◌<◌, ◌≤◌, length, take};
+ghost use Rattle.text.specs.Text.{digit, hex, bytes_text, decimal};
+ghost use Rattle.text.specs.Appended.{Appended};
 
-pub fn put(out: &mut [u8], at: usize, byte: u8) -> usize
-    requires { at < length out.old }
-    ensures { Wrote out.old at (byte ∷ []) out.new result }
-{
-    out[at] = byte;
-    at + 1
-}
-
-pub fn put_text(out: &mut [u8], at: usize, text: &[u8]) -> usize
-    requires { at + length text.now ≤ length out.old }
-    ensures { Wrote out.old at text.now out.new result }
-{
-    let mut place = at;
-    let mut i: usize = 0;
-    while i < text.len() {
-        place = put(out, place, text[i]);
-        i = i + 1;
-    }
-    place
-}
+use itoa::Buffer;
 
 fn digit_of(value: u8) -> u8
     requires { value < 16 }
     ensures { result ≡ digit value }
 {
-    if value < 10 {
-        b'0' + value
-    } else {
-        b'a' + (value - 10)
+    b"0123456789abcdef"[usize::from(value)]
+}
+
+// A lent buffer, and how many bytes of its front are text.
+#[derive(Drop)]
+pub struct Page<'a> {
+    bytes: &'a mut [u8],
+    used: usize,
+}
+
+impl<'a> Page<'a> {
+    // No text stands on it yet.
+    pub fn new(bytes: &'a mut [u8]) -> Self
+        ensures bytes { result.bytes.now ≡ bytes.old }
+        ensures used { result.used ≡ 0 }
+        ensures same_buffer { result.bytes.ghost_name ≡ bytes.entry.ghost_name }
+    {
+        Page { bytes, used: 0 }
     }
 }
 
-fn put_hex(out: &mut [u8], at: usize, byte: u8) -> usize
-    requires { at + 2 ≤ length out.old }
-    ensures { Wrote out.old at (hex byte) out.new result × (result ≡ at + 2) }
-{
-    let place = put(out, at, digit_of(byte / 16));
-    put(out, place, digit_of(byte % 16))
-}
-
-// Each byte after a space.
-pub fn put_bytes(out: &mut [u8], at: usize, bytes: &[u8]) -> usize
-    requires { at + 3 * length bytes.now ≤ length out.old }
-    ensures { Wrote out.old at (bytes_text bytes.now) out.new result
-        × (result ≡ at + 3 * length bytes.now) }
-{
-    let mut place = at;
-    let mut i: usize = 0;
-    while i < bytes.len() {
-        let past = put(out, place, b' ');
-        place = put_hex(out, past, bytes[i]);
-        i = i + 1;
+impl Page<'_> {
+    pub fn text(&self) -> &[u8]
+        requires { self.now.used ≤ length self.now.bytes.now }
+        ensures { result.now ≡ take self.now.used self.now.bytes.now }
+    {
+        &self.bytes[..self.used]
     }
-    place
-}
 
-// The digit of a number at a power of ten, if the number reaches it.
-fn put_digit(out: &mut [u8], at: usize, number: usize, power: usize) -> usize
-    requires { (at < length out.old) × (0 < power) }
-    ensures { Wrote out.old at (digit_at number power) out.new result × (result ≤ at + 1) }
-{
-    if number < power {
-        return at;
+    // How many bytes are left for more text.
+    pub fn room(&self) -> usize
+        requires { self.now.used ≤ length self.now.bytes.now }
+        ensures { self.now.used + result ≡ length self.now.bytes.now }
+    {
+        self.bytes.len() - self.used
     }
-    put(out, at, digit_of((number / power % 10) as u8))
-}
 
-pub fn put_decimal(out: &mut [u8], at: usize, number: usize) -> usize
-    requires { (at + 5 ≤ length out.old) × (number < 100000) }
-    ensures { Wrote out.old at (decimal number) out.new result × (result ≤ at + 5) }
-{
-    let place = put_digit(out, at, number, 10000);
-    let place = put_digit(out, place, number, 1000);
-    let place = put_digit(out, place, number, 100);
-    let place = put_digit(out, place, number, 10);
-    put(out, place, digit_of((number % 10) as u8))
+    // No text stands on it any more.
+    pub fn clear(&mut self)
+        ensures used { self.new.used ≡ 0 }
+        ensures bytes { self.new.bytes.now ≡ self.old.bytes.now }
+        ensures same_buffer { self.new.bytes.ghost_name ≡ self.old.bytes.ghost_name }
+    {
+        self.used = 0;
+    }
+
+    pub fn put(&mut self, byte: u8)
+        requires { self.old.used < length self.old.bytes.now }
+        ensures { Appended self.old (byte ∷ []) self.new }
+    {
+        self.bytes[self.used] = byte;
+        self.used += 1;
+    }
+
+    pub fn put_text(&mut self, text: &[u8])
+        requires { self.old.used + length text.now ≤ length self.old.bytes.now }
+        ensures { Appended self.old text.now self.new }
+    {
+        let end = self.used + text.len();
+        self.bytes[self.used..end].copy_from_slice(text);
+        self.used = end;
+    }
+
+    // By `write!` there would be an error to answer for, which a page with room for the digits never has.
+    fn put_hex(&mut self, byte: u8)
+        requires { self.old.used + 2 ≤ length self.old.bytes.now }
+        ensures written { Appended self.old (hex byte) self.new }
+        ensures size { self.new.used ≡ self.old.used + 2 }
+    {
+        self.put(digit_of(byte / 16));
+        self.put(digit_of(byte % 16));
+    }
+
+    // Each byte after a space.
+    pub fn put_bytes(&mut self, bytes: &[u8])
+        requires { self.old.used + 3 * length bytes.now ≤ length self.old.bytes.now }
+        ensures written { Appended self.old (bytes_text bytes.now) self.new }
+        ensures size { self.new.used ≡ self.old.used + 3 * length bytes.now }
+    {
+        for byte in bytes {
+            self.put(b' ');
+            self.put_hex(*byte);
+        }
+    }
+
+    pub fn put_decimal(&mut self, number: usize)
+        requires { (self.old.used + 5 ≤ length self.old.bytes.now) × (number < 100000) }
+        ensures written { Appended self.old (decimal number) self.new }
+        ensures size { self.new.used ≤ self.old.used + 5 }
+    {
+        self.put_text(Buffer::new().format(number).as_bytes());
+    }
 }

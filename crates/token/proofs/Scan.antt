@@ -1,34 +1,46 @@
--- A search goes on byte by byte: what is left of it after one more.
-use Rattle.std.proofs.Common.{◌≡◌, refl, ap, ◌∙◌, arith, ℕ, suc, ◌+◌, ◌≤◌, ◌<◌, List, ◌∷◌, eqb, length, take, drop, get_or, eq-eqb, ne_eqb}
-use Rattle.std.proofs.Math.Seq.{drop-cons}
-use Rattle.std.proofs.lemmas.List.{length-take-le, get_or-take}
-use Rattle.std.proofs.Math.ListN.{drop_of_length-le}
+-- What a search from the front finds is the index that the definition counts.
+use Rattle.std.proofs.Common.{◌≡◌, refl, ◌∙◌, sym, ap, arith, ℕ, ◌+◌, ◌-◌, ◌≤◌, take, drop, length-drop, length-take-le, List, Bool, true, false, cond, eqb, ltb, ◌==◌, length, Some, None}
+use Rattle.std.proofs.lemmas.Bool.Decides.{nat_tests}
+use Rattle.std.proofs.lemmas.List.{drop-take}
+use Rattle.std.specs.Option.{unwrap_or}
+use Rattle.std.specs.List.{position, position_or_len}
+use Rattle.std.proofs.lemmas.List.Recursion.{is_position_or_len}
+use Rattle.std.proofs.lemmas.List.Sums.{prefix_len-le-length}
 use Rattle.token.specs.Scan.{index_after, index_of, slice}
 
-slice_more : (a : List ℕ) (at to : ℕ) → at < to → to ≤ length a → slice at to a ≡ get_or a at 0 ∷ slice (suc at) to a
-unfolding slice
-slice_more a at to l h =
-    drop-cons (take to a) at 0 (omega (arith, length-take-le to a h))
-    ∙ ap (λ (x : ℕ). x ∷ drop (suc at) (take to a)) (get_or-take to a at 0 l)
+after_is : (found : Bool) (k : ℕ) → index_after found k ≡ cond found 0 (1 + k)
+unfolding index_after
+after_is true k = refl
+after_is false k = omega arith
 
-of_more : (byte x : ℕ) (xs : List ℕ) → index_of byte (x ∷ xs) ≡ index_after (eqb x byte) (index_of byte xs)
+counted : (byte : ℕ) (xs : List ℕ) → index_of byte xs ≡ position_or_len (λ x. x == byte) xs
 unfolding index_of
-of_more byte x xs = refl
+counted byte xs = is_position_or_len (index_of byte) (λ x. x == byte) refl (λ x xs. after_is (eqb x byte) (index_of byte xs)) xs
 
-pub index_found : (a : List ℕ) (at to byte : ℕ) → at < to → to ≤ length a → get_or a at 0 ≡ byte → index_of byte (slice at to a) ≡ 0
-unfolding index_after
-index_found a at to byte l h e =
-    ap (index_of byte) (slice_more a at to l h) ∙ of_more byte (get_or a at 0) (slice (suc at) to a)
-    ∙ ap (λ t. index_after t (index_of byte (slice (suc at) to a))) (eq-eqb _ _ e)
+pub index_within : (byte : ℕ) (xs : List ℕ) → index_of byte xs ≤ length xs
+index_within byte xs = rw (counted byte xs) (prefix_len-le-length _ xs)
 
-pub index_further : (a : List ℕ) (at to byte : ℕ) → at < to → to ≤ length a → ¬ (get_or a at 0 ≡ byte)
-    → index_of byte (slice at to a) ≡ suc (index_of byte (slice (at + 1) to a))
-unfolding index_after
-index_further a at to byte l h ne =
-    ap (index_of byte) (slice_more a at to l h) ∙ of_more byte (get_or a at 0) (slice (suc at) to a)
-    ∙ ap (λ t. index_after t (index_of byte (slice (suc at) to a))) (ne_eqb _ _ ne)
-    ∙ (let e : suc at ≡ at + 1 = omega arith in ap (λ (k : ℕ). suc (index_of byte (slice k to a))) e)
+chosen : (n most : ℕ) → n ≤ most → unwrap_or (cond (ltb n most) (Some n) None) most ≡ n
+chosen n most h = grind (arith, nat_tests)
 
-pub index_end : (a : List ℕ) (to byte : ℕ) → to ≤ length a → index_of byte (slice to to a) ≡ 0
-unfolding slice index_of
-index_end a to byte h = ap (index_of byte) (drop_of_length-le (take to a) (omega (arith, length-take-le to a h)))
+index_position : (byte : ℕ) (xs : List ℕ) → unwrap_or (position (λ x. x == byte) xs) (length xs) ≡ index_of byte xs
+index_position byte xs = chosen (position_or_len (λ x. x == byte) xs) (length xs) (prefix_len-le-length _ xs) ∙ sym (counted byte xs)
+
+found_in : (part : List ℕ) (n byte u : ℕ) → length part ≡ n → u ≡ unwrap_or (position (λ x. x == byte) part) n
+    → (u ≡ index_of byte part) × (u ≤ n)
+found_in part n byte u l e =
+    let i : u ≡ index_of byte part = e ∙ ap (unwrap_or (position (λ x. x == byte) part)) (sym l) ∙ index_position byte part in
+    (i, omega (arith, index_within byte part))
+
+-- so in a part of a text
+pub find_part : (text : List ℕ) (from to byte u : ℕ) → from ≤ to → to ≤ length text
+    → u ≡ unwrap_or (position (λ x. x == byte) (take (to - from) (drop from text))) (to - from)
+    → (from + u ≡ from + index_of byte (slice from to text)) × (from + u ≤ to)
+unfolding slice
+find_part text from to byte u h k e =
+    let part : List ℕ = take (to - from) (drop from text) in
+    let n : length part ≡ to - from = omega (arith, length-drop from text, length-take-le (to - from) (drop from text)) in
+    let whole : from + (to - from) ≡ to = omega arith in
+    let same : drop from (take to text) ≡ part = rw whole at (drop-take from (to - from) text) in
+    let f = found_in part (to - from) byte u n e in
+    (ap (λ (x : ℕ). from + x) (f.0 ∙ ap (index_of byte) (sym same)), omega (arith, f.1))

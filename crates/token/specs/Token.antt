@@ -1,12 +1,17 @@
 -- What stands at a place of a line: a byte, a word, a number. A definition reads the line from a place on, and gives the
 -- place past what it read, or `lost`, where nothing is read any more. The words of document 01, 'Bench program', stand in quotes.
-use Rattle.std.specs.Prelude.{ℕ, ◌+◌, ◌-◌, ◌*◌, cond, ◌&&◌, ◌||◌, List, [], ◌∷◌, length, get_or, eqb, ltb, leb}
+use Rattle.std.specs.Prelude.{ℕ, ◌+◌, ◌-◌, ◌*◌, cond, ◌&&◌, ◌||◌, List, [], ◌∷◌, length, get_or, eqb, ltb, leb, Option, None, Some}
 use Prim.Native.Char.{code}
 use Rattle.token.specs.declared.Item.{Item}
 
 -- the largest number of a machine's 64 bits: a place that no line in its memory has
 abbrev pub lost : ℕ
 lost = 18446744073709551615
+
+-- a place that a function hands back: None is `lost`
+abbrev pub place : Option ℕ → ℕ
+place None = lost
+place (Some at) = at
 
 -- the place past a byte
 unfoldable pub eat_at : List ℕ → ℕ → ℕ → ℕ
@@ -29,6 +34,11 @@ digit_at line at = cond (ltb at (length line)) (digit_of (get_or line at 0)) 16
 -- a value, and the place past it
 abbrev pub item : ℕ → ℕ → Item
 item value next = record { value = value; next = next }
+
+-- an item that a function hands back: None is no value, and `lost`
+abbrev pub found : Option Item → Item
+found None = item 0 lost
+found (Some i) = i
 
 -- the item with one digit more in the base; the digit must be there
 unfoldable pub extend_at : List ℕ → ℕ → Item → Item

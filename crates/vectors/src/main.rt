@@ -2,21 +2,15 @@
 // of two independent simulators, and with pages that of a third, in simulator/.
 #![tactic(auto)]
 
-use input::read_full;
 use std::fs::File;
 use std::{env, io};
 
 // A file that cannot be opened is named on standard error, and passed over.
 fn play_file(rt: &HostRuntime, name: &str) -> io::Result<()> {
-    let mut file = match File::open(rt, name) {
-        Ok(file) => file,
-        Err(error) => return eprintln!(rt; "{name}: {error}"),
-    };
-    let mut text = [0u8; 65537];
-    let count = read_full(&mut file, &mut text)?;
-    let mut image = [0u8; 4224];
-    let mut out = [0u8; 32768];
-    play::run_all(&mut rt.stdout(), &text[..count], &mut image, &mut out)
+    match File::open(rt, name) {
+        Ok(mut file) => play::run_input(&mut file, &mut rt.stdout()),
+        Err(error) => eprintln!(rt; "{name}: {error}"),
+    }
 }
 
 fn main(rt: HostRuntime) -> io::Result<()> {

@@ -1,4 +1,4 @@
--- `format::format_units` meets its contract. The loop's invariant: the units so far are fresh, the rest is as it was.
+-- `format::format_units` meets its contract: a unit lies in the image, and one more unit is fresh.
 use borrow.Author.Rules.{rules}
 use native.Mathlib.Omega.{arith}
 use Prim.Native.Nat.{◌+◌}
@@ -12,34 +12,33 @@ use Rattle.format.proofs.format_units.Goals as goal
 
 pub loop-unit-init : goal.loop-unit-init
 unfolding fresh
-loop-unit-init c = (omega arith, sym (base_none c.args.plan), refl, refl)
+loop-unit-init c = (sym (base_none c.args.plan), refl, refl)
 
 pub overflow_add-end : goal.overflow_add-end
 overflow_add-end c = let p = c.args.plan in
-    omega (arith, base_bound p c.requires.0 c.loop-unit.unit p.count c.loop-unit-test.true, c.requires.1, c.loop-unit.invariant.1, c.unit_length.ensures.0)
+    omega (arith, base_bound p c.requires.0 c.loop-unit.unit p.count c.loop-unit-test.true)
 
 pub slice_bounds-format_unit-end : goal.slice_bounds-format_unit-end
 slice_bounds-format_unit-end c = let p = c.args.plan in
-    omega (arith, base_bound p c.requires.0 c.loop-unit.unit p.count c.loop-unit-test.true, c.requires.1, c.loop-unit.invariant.1, c.loop-unit.invariant.2, c.unit_length.ensures.0)
+    omega (arith, base_bound p c.requires.0 c.loop-unit.unit p.count c.loop-unit-test.true)
 
 pub format_unit-requires : goal.format_unit-requires
 format_unit-requires c = let p = c.args.plan in
-    let h = c.loop-unit in
+    let u = c.loop-unit.unit in
     simp (length-take, length-drop)
-    (omega (arith, unit_some p c.requires.0 h.unit, base_bound p c.requires.0 h.unit p.count c.loop-unit-test.true, c.requires.1, h.invariant.1, h.invariant.2, c.unit_length.ensures.0))
+    (omega (arith, unit_some p c.requires.0 u, base_bound p c.requires.0 u p.count c.loop-unit-test.true))
 
 pub loop-unit-preserved : goal.loop-unit-preserved
-loop-unit-preserved c = let a = c.args in
-    let p = a.plan in
-    let bound = base_bound p c.requires.0 c.loop-unit.unit p.count c.loop-unit-test.true in
+loop-unit-preserved c = let p = c.args.plan in
+    let l = c.loop-unit in
+    let bound = base_bound p c.requires.0 l.unit p.count c.loop-unit-test.true in
     let length-is = c.unit_length.ensures.0 in (
-      omega arith,
-      rw (base_more p c.loop-unit.unit) (ap₂ ◌+◌ c.loop-unit.invariant.1 length-is),
+      rw (base_more p l.unit) (ap₂ ◌+◌ l.invariant.0 length-is),
       search rules,
-      fresh_more p c.requires.0 c.loop-unit.unit c.loop-unit.base _ a.image.now c.loop-unit.image c.format_unit.new.span c.loop-unit.invariant.1 length-is (omega (arith, c.requires.1)) c.loop-unit.invariant.3 c.format_unit.ensures,
+      fresh_more p c.requires.0 l.unit l.base _ c.args.image.now l.image c.format_unit.new.span l.invariant.0 length-is (omega arith) l.invariant.2 c.format_unit.ensures,
     )
 
 pub returns : goal.returns
 unfolding formatted
 returns c = let e : c.loop-unit.unit ≡ c.args.plan.count = omega arith in
-    rw (c.loop-unit.invariant.1, e) at c.loop-unit.invariant.3
+    rw (c.loop-unit.invariant.0, e) at c.loop-unit.invariant.2

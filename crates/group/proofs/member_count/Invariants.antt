@@ -1,10 +1,11 @@
--- `group::member_count` meets its contract. The loop's invariant: the bytes before `at` are so many members.
-use Prim.Native.Nat.{◌-◌, ◌≤◌}
+-- `group::member_count` meets its contract. The loop's invariant: the bytes before those that are left are so many members.
+use Prim.Native.Nat.{◌≤◌}
+use lib.ListN.{length}
 use Rattle.group.proofs.Count.{Walked}
 use Rattle.group.proofs.member_count.Given as goal
 
-abbrev pub invariant-loop-at : goal.invariant-loop-at
-invariant-loop-at l = (l.at ≤ l.length) × (l.members ≤ 4) × Walked l.plan l.bytes l.at l.members
+abbrev pub invariant-loop-unit : goal.invariant-loop-unit
+invariant-loop-unit l = (l.members ≤ 4) × Walked l.plan l.bytes l.rest l.members
 
-abbrev pub decreases-loop-at : goal.decreases-loop-at
-decreases-loop-at l = l.length - l.at
+abbrev pub decreases-loop-unit : goal.decreases-loop-unit
+decreases-loop-unit l = length l.rest

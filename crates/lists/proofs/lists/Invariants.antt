@@ -1,9 +1,6 @@
--- The loop's invariant: `at` is in the text.
-use Rattle.std.proofs.Common.{◌-◌, ◌≤◌}
+-- Each list takes its bytes off the text.
+use Rattle.std.proofs.Common.{length}
 use Rattle.lists.proofs.lists.Given as goal
 
-abbrev pub invariant-loop-at : goal.invariant-loop-at
-invariant-loop-at g l = l.at ≤ l.count
-
-abbrev pub decreases-loop-at : goal.decreases-loop-at
-decreases-loop-at g l = l.count - l.at
+abbrev pub decreases-loop-head : goal.decreases-loop-head
+decreases-loop-head g l = length l.left

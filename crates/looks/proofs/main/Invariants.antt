@@ -1,9 +1,6 @@
--- `looks::main` is safe and ends.
-use Rattle.std.specs.Prelude.{◌-◌, ◌≡◌, length}
+-- Each text takes its bytes off those that are left.
+use Rattle.std.proofs.Common.{length}
 use Rattle.looks.proofs.main.Given as goal
 
-abbrev pub invariant-loop-at : goal.invariant-loop-at
-invariant-loop-at l = length l.image ≡ 4224
-
-abbrev pub decreases-loop-at : goal.decreases-loop-at
-decreases-loop-at l = l.count - l.at
+abbrev pub decreases-loop-left : goal.decreases-loop-left
+decreases-loop-left l = length l.left

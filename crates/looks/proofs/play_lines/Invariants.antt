@@ -1,9 +1,9 @@
--- `looks::play_lines` is safe and ends. The invariant: a line's number is at most its offset.
-use Rattle.std.specs.Prelude.{◌+◌, ◌-◌, ◌≤◌, ◌≡◌, length}
+-- A line has a byte or more, so its number is bounded by the bytes that are behind it.
+use Rattle.std.proofs.Common.{◌+◌, ◌≤◌, length}
 use Rattle.looks.proofs.play_lines.Given as goal
 
-abbrev pub invariant-loop-at : goal.invariant-loop-at
-invariant-loop-at g l = (l.number ≤ l.at) × (l.from ≤ l.at) × (length l.image ≡ length l.initial.image)
+abbrev pub invariant-loop-device : goal.invariant-loop-device
+invariant-loop-device g l = l.number + length l.left ≤ 1 + length l.fn.text
 
-abbrev pub decreases-loop-at : goal.decreases-loop-at
-decreases-loop-at g l = length l.text + 1 - l.at
+abbrev pub decreases-loop-device : goal.decreases-loop-device
+decreases-loop-device g l = length l.left

@@ -1,23 +1,25 @@
--- `play::play_plan` meets its contract: after an accepted plan the image is its units.
-use lib.ListN.{length-take}
-use native.Mathlib.Omega.{arith}
-use mathlib.Core.Path.{sym}
-use lib.Seq.{length-take-le}
-use borrow.Author.Rules.{rules}
+-- `play::play_plan` meets its contract: the units of a plan that start accepts lie in the image.
+use Rattle.std.proofs.Common.{arith, rules, sym, length-take-le}
 use Rattle.model.proofs.RefusalLaws.{start_says}
-use Rattle.play.proofs.Bounds.{total_most}
+use Rattle.play.proofs.Bounds.{accepted, total_most}
 use Rattle.play.proofs.play_plan.Goals as goal
 
-pub base_of-total-requires : goal.base_of-total-requires
-base_of-total-requires g c = (start_says _ (c.open-answer.ensures c.if-answer-ne0.false)).page
+pub base_of-requires : goal.base_of-requires
+base_of-requires g c =
+    (start_says _ (accepted _ _ c.start-started.ensures c.if-started-ne0.false)).page
 
-pub slice_bounds-play_lines-end : goal.slice_bounds-play_lines-end
-slice_bounds-play_lines-end g c = omega (arith, c.base_of-total.ensures.0, total_most _ (c.open-answer.ensures c.if-answer-ne0.false))
+pub slice_bounds-units-end : goal.slice_bounds-units-end
+slice_bounds-units-end g c =
+    omega (arith, c.base_of.ensures.0, total_most _ (accepted _ _ c.start-started.ensures c.if-started-ne0.false))
+
+pub slice_bounds-units-end-2 : goal.slice_bounds-units-end-2
+slice_bounds-units-end-2 g c =
+    let most = total_most _ (accepted _ _ c.start-started.ensures c.if-started-ne0.false) in
+    sym (length-take-le _ _ (omega (arith, c.base_of.ensures.0, most)))
 
 pub play_lines-requires : goal.play_lines-requires
 play_lines-requires g c =
-    let ok = c.open-answer.ensures c.if-answer-ne0.false in
-    (search rules, search rules, search rules, (ok, simp length-take (omega (arith, c.base_of-total.ensures.0, total_most _ ok))), search rules)
-
-pub slice_bounds-play_lines-end-2 : goal.slice_bounds-play_lines-end-2
-slice_bounds-play_lines-end-2 g c = sym (length-take-le _ _ (omega (arith, c.base_of-total.ensures.0, total_most _ (c.open-answer.ensures c.if-answer-ne0.false))))
+    let ok = accepted _ _ c.start-started.ensures c.if-started-ne0.false in
+    let most = total_most _ ok in
+    let units = length-take-le c.base_of.result c.args.image.now (omega (arith, c.base_of.ensures.0, most)) in
+    (search rules, search rules, search rules, (ok, omega (arith, c.base_of.ensures.0, units, c.format-formatted.auto.image)), search rules)

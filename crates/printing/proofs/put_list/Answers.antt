@@ -1,9 +1,8 @@
 -- `printing::put_list` meets its contract: the three pieces one after the other.
-use native.Mathlib.Omega.{arith}
 use Rattle.printing.specs.Printed.{listed}
-use Rattle.text.proofs.Laws.{wrote_then}
+use Rattle.text.proofs.Laws.{appended_then}
 use Rattle.printing.proofs.put_list.Goals as goal
 
-pub returns : goal.returns
+pub returns-clause-written : goal.returns-clause-written
 unfolding listed
-returns c = (wrote_then (wrote_then c.put_text-place.ensures c.put_bytes-place.ensures.0) c.put.ensures, omega arith)
+returns-clause-written c = appended_then (appended_then c.put_text.ensures c.put_bytes.ensures.written) c.put.ensures

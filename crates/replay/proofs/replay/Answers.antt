@@ -1,31 +1,18 @@
--- `replay::replay` meets its contract. The loop's invariant: the calls that are left, made on what is reached, give the answer.
-use borrow.Author.Rules.{rules}
-use native.Mathlib.Omega.{arith}
-use mathlib.Core.Path.{refl, ◌∙◌}
+-- `replay::replay` meets its contract: an entry's call is made on what is reached.
+use Rattle.std.proofs.Common.{ap, sym, ◌∙◌, List}
+use Rattle.model.specs.Calls.{outcome}
+use Rattle.model.specs.Ledger.{Call}
+use Rattle.model.specs.PowerCut.{run}
 use Rattle.store.specs.Modelled.{modelled}
-use Rattle.recovery.proofs.Laws.{ended, stopped, turn, ends}
+use Rattle.recovery.proofs.Laws.{goes_on, ends}
 use Rattle.replay.proofs.replay.Goals as goal
 
-pub loop-at-init : goal.loop-at-init
-loop-at-init c = (omega arith, refl, refl)
-
-pub returns-then-calls-from : goal.returns-then-calls-from
-returns-then-calls-from c =
-    let l = c.loop-at in
-    let calls = c.args.calls.now in
-    ends _ _ _ _ (stopped calls l.at _ _ c.number_at-unit.ensures c.number_at-size.ensures (omega arith) c.if-calls-from.true) l.invariant.2
-
-pub loop-at-preserved : goal.loop-at-preserved
-loop-at-preserved c =
-    let l = c.loop-at in
-    let calls = c.args.calls.now in (
-      omega arith,
-      search rules,
-      turn calls l.at _ _ c.number_at-unit.ensures c.number_at-size.ensures (omega arith) l.number (modelled l.held) l.image _ _
-          c.call-after.ensures ∙ l.invariant.2,
-    )
+pub loop-entry-preserved : goal.loop-entry-preserved
+loop-entry-preserved c =
+    let l = c.loop-entry in
+    goes_on _ _ l.last.number (modelled l.last.device) l.image _ _ c.call-last.ensures
+    ∙ ap (λ (cs : List Call). run cs (outcome l.last.number (modelled l.last.device) l.image)) (sym c.in-Some.ensures.steps)
+    ∙ l.invariant
 
 pub returns : goal.returns
-returns c =
-    let l = c.loop-at in
-    ends _ _ _ _ (ended c.args.calls.now l.at l.invariant.0 (omega (arith, c.loop-at-test.false))) l.invariant.2
+returns c = ends _ _ _ _ c.in-None.ensures.steps.0 c.loop-entry.invariant

@@ -1,22 +1,16 @@
--- `replay::turns_of` meets its contract.
-use lib.Seq.{length-take-le}
-use native.Mathlib.Omega.{arith}
-use mathlib.Core.Path.{sym, ◌∙◌}
-use lib.ListN.{length}
+-- The first eight bytes, or none.
+use Rattle.std.proofs.Common.{length, ◌∙◌, ap}
 use borrow.Author.Tests.{lt-ltb, le-ltb}
+use Rattle.model.specs.Turns.{amount}
 use Rattle.recovery.specs.Encoding.{turns_in}
 use Rattle.replay.proofs.turns_of.Goals as goal
 
-pub returns-then-bytes-lt8 : goal.returns-then-bytes-lt8
+pub returns-in-Some : goal.returns-in-Some
 unfolding turns_in
-returns-then-bytes-lt8 c = rw (lt-ltb (length c.args.bytes.now) 8 (omega (arith, c.if-bytes-lt8.true)))
+returns-in-Some c =
+    let chunk = (c.in-Some.ensures).cases in
+    rw (le-ltb (length c.args.bytes.now) 8 chunk.enough) (c.amount_of.ensures ∙ ap amount chunk.same)
 
-pub slice_bounds-amount_of-end : goal.slice_bounds-amount_of-end
-slice_bounds-amount_of-end c = sym (length-take-le 8 c.args.bytes.now (omega (arith, c.if-bytes-lt8.false)))
-
-pub amount_of-requires : goal.amount_of-requires
-amount_of-requires c = length-take-le 8 c.args.bytes.now (omega (arith, c.if-bytes-lt8.false))
-
-pub returns : goal.returns
+pub returns-in-None : goal.returns-in-None
 unfolding turns_in
-returns c = c.amount_of.ensures ∙ rw (le-ltb (length c.args.bytes.now) 8 (omega (arith, c.if-bytes-lt8.false)))
+returns-in-None c = rw (lt-ltb (length c.args.bytes.now) 8 (c.in-None.ensures).cases)

@@ -1,26 +1,33 @@
--- `row::row_at` meets its contract: each test rules the form out, and where none does the entries begin.
-use native.Mathlib.Omega.{arith}
-use mathlib.Core.Path.{ap, ◌∙◌}
-use Rattle.token.specs.Token.{entry_at}
-use Rattle.row.proofs.Row.{other_level, other_count_lem, other_end, of_form}
+-- `row::row_at` meets its contract: what isn't read is no row; and the tests are the definition's, of what was read.
+use Rattle.std.proofs.Common.{refl, ap, sym, arith}
+use Rattle.list.specs.declared.Items.{Items}
+use Rattle.row.specs.Row.{head_at}
+use Rattle.row.proofs.Full.{row_found}
+use Rattle.row.proofs.Row.{of_form, other_form}
 use Rattle.row.proofs.row_at.Goals as goal
 
-pub returns-then-value-level : goal.returns-then-value-level
-returns-then-value-level c = let a = c.args in
-    other_level a.level a.line.now _ _ _ _ (c.entry-number.ensures.0 ∙ ap (entry_at a.line.now) c.word.ensures)
-    c.word-at.ensures c.items_at-row.ensures c.eat-end.ensures (λ z. absurd (omega (arith, c.if-value-level.true, z)))
+pub returns-in_err-head : goal.returns-in_err-head
+returns-in_err-head c = let a = c.args in
+    rw c.from_residual.ensures
+    (sym (other_form a.level a.line.now _ _ _ refl refl refl (λ x full y. row_found a.line.now (omega arith) (head_at a.line.now).next full c.in_err-head.ensures)))
 
-pub returns-then-count-ne64 : goal.returns-then-count-ne64
-returns-then-count-ne64 c = let a = c.args in
-    other_count_lem a.level a.line.now _ _ _ _ (c.entry-number.ensures.0 ∙ ap (entry_at a.line.now) c.word.ensures)
-    c.word-at.ensures c.items_at-row.ensures c.eat-end.ensures (omega (arith, c.if-value-level.false)) (λ z. absurd (omega (arith, c.if-count-ne64.true, z)))
+pub returns-in_err-row : goal.returns-in_err-row
+returns-in_err-row c = let a = c.args in
+    rw c.from_residual-in_err-row.ensures
+    (sym (other_form a.level a.line.now _ _ _ c.in_ok-head.ensures refl refl
+    (λ x full y. absurd (omega (arith, full, ap (λ (list : Items). list.count) c.in_err-row.ensures.list)))))
+
+pub returns-in_err-end : goal.returns-in_err-end
+returns-in_err-end c = let a = c.args in
+    rw c.from_residual-in_err-end.ensures
+    (sym (other_form a.level a.line.now _ _ _ c.in_ok-head.ensures c.in_ok-row.ensures.list refl
+    (λ x y end. absurd (omega (arith, end, c.in_err-end.ensures.past)))))
 
 pub returns-then-end-line : goal.returns-then-end-line
 returns-then-end-line c = let a = c.args in
-    other_end a.level a.line.now _ _ _ _ (c.entry-number.ensures.0 ∙ ap (entry_at a.line.now) c.word.ensures)
-    c.word-at.ensures c.items_at-row.ensures c.eat-end.ensures c.if-value-level.false (omega (arith, c.if-count-ne64.false)) (λ z. absurd (omega (arith, c.if-end-line.true, z)))
+    let from = of_form a.level a.line.now _ _ _ c.in_ok-head.ensures c.in_ok-row.ensures.list c.in_ok-end.ensures.past (omega arith) (omega arith) (omega arith) in
+    (refl, from, refl)
 
-pub returns : goal.returns
-returns c = let a = c.args in
-    of_form a.level a.line.now _ _ _ _ (c.entry-number.ensures.0 ∙ ap (entry_at a.line.now) c.word.ensures)
-    c.word-at.ensures c.items_at-row.ensures c.eat-end.ensures c.if-value-level.false c.if-count-ne64.false (omega (arith, c.if-end-line.false))
+pub returns-else-head-level : goal.returns-else-head-level
+returns-else-head-level c = let a = c.args in
+    sym (other_form a.level a.line.now _ _ _ c.in_ok-head.ensures c.in_ok-row.ensures.list c.in_ok-end.ensures.past (λ x y z. grind arith))

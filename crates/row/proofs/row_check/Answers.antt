@@ -1,54 +1,36 @@
--- `row::row_check` meets its contract. The loop's invariant: the entries read and those left are the row; from bin j on the scratch
--- still holds the row one level lower; the rules that are left to ask decide.
-use borrow.Author.Rules.{rules}
-use native.Mathlib.Omega.{arith}
-use mathlib.Core.Path.{◌≡◌, refl, ap, sym, ◌∙◌}
-use mathlib.Core.Bool.{false≢true}
-use mathlib.Core.List.{append-nil}
-use Prim.Native.Nat.{◌+◌}
-use lib.Seq.{drop-set-lt}
+-- `row::row_check` meets its contract: a turn of the loop is one entry, and one of the rules.
+use Rattle.std.proofs.Common.{◌+◌, ◌<◌, ap, sym, ◌∙◌, arith, Bool, cond, ℕ}
+use Rattle.std.proofs.Math.Seq.{drop-set-lt}
 use Rattle.row.specs.Row.{in_rule}
-use Rattle.row.proofs.Turn.{tested_small, rule_goes_on, rule_ends, values_on, values_end, stored_on, drop_more}
+use Rattle.row.proofs.Turn.{rule_goes_on, rule_ends, values_end, stored_on, stored_end, drop_more}
 use Rattle.row.proofs.row_check.Goals as goal
 
-pub loop-j-init : goal.loop-j-init
-loop-j-init c = (omega arith, refl, refl, refl, refl)
+pub returns-then-not-in_rule-clause-number : goal.returns-then-not-in_rule-clause-number
+returns-then-not-in_rule-clause-number c = let a = c.args in
+    let l = c.loop-bin in
+    let more : l.bin-index < 64 = omega arith in
+    let goes = rw (c.next-value.ensures.read, l.invariant.0) at c.next-value.ensures.value in
+    let ends = rule_ends a.i l.row a.row.now c.requires.0 l.bin-index _ l.invariant.2 more l.before _ _ c.in_rule.ensures c.if-not-in_rule.true in
+    ap (λ (good : Bool). cond good 0 13) (sym (sym l.invariant.3 ∙ ap (in_rule l.before _) goes ∙ ends))
 
-pub in_rule-good-requires : goal.in_rule-good-requires
-in_rule-good-requires c = omega (arith, c.loop-j.invariant.4, c.loop-j-test.true, c.requires)
-
-pub returns-then-not-good : goal.returns-then-not-good
-returns-then-not-good c = let a = c.args in
-    let l = c.loop-j in
-    let more = c.loop-j-test.true in
-    let v = values_on a.line.now l.p 64 l.j _ _ more c.entry-item.ensures.0 refl in
-    let ends = rule_ends a.i l.scratch a.scratch.now c.requires l.j _ l.invariant.2 more l.before _ _ c.in_rule-good.ensures (c.if-not-good.true) in
-    (sym (sym l.invariant.3 ∙ ap (in_rule l.before _) v ∙ ends), λ e. absurd (false≢true e), l.invariant.4)
-
-pub overflow_cast-scratch : goal.overflow_cast-scratch
-overflow_cast-scratch c = let l = c.loop-j in
-    omega (arith, tested_small c.args.i l.scratch l.j l.before c.entry-item.result.value _ c.in_rule-good.ensures (c.if-not-good.false))
-
-pub bounds-scratch-j : goal.bounds-scratch-j
-bounds-scratch-j c = omega (arith, c.loop-j.invariant.4, c.loop-j-test.true, c.requires)
-
-pub loop-j-preserved : goal.loop-j-preserved
-loop-j-preserved c = let a = c.args in
-    let l = c.loop-j in
-    let more = c.loop-j-test.true in
-    let v = values_on a.line.now l.p 64 l.j _ _ more c.entry-item.ensures.0 c.eat-p.ensures in
-    let on = rule_goes_on a.i l.scratch a.scratch.now c.requires l.j _ l.invariant.2 more l.before _ _ c.in_rule-good.ensures (c.if-not-good.false) in (
-      omega arith,
-      stored_on l.scratch _ _ l.j _ (omega (arith, l.invariant.4, more, c.requires)) (rw v at l.invariant.1),
-      drop-set-lt (l.j + 1) l.scratch l.j _ (omega arith) ∙ drop_more l.j l.scratch a.scratch.now l.invariant.2,
-      sym on ∙ sym (ap (in_rule l.before _) v) ∙ l.invariant.3,
-      search rules,
+pub loop-bin-preserved : goal.loop-bin-preserved
+loop-bin-preserved c = let a = c.args in
+    let l = c.loop-bin in
+    let more : l.bin-index < 64 = omega arith in
+    let goes = rw (c.next-value.ensures.read, l.invariant.0) at c.next-value.ensures.value in
+    let rule = rule_goes_on a.i l.row a.row.now c.requires.0 l.bin-index _ l.invariant.2 more l.before _ _ c.in_rule.ensures c.if-not-in_rule.false in (
+      c.next-value.ensures.read ∙ ap (λ (n : ℕ). n + 1) l.invariant.0,
+      stored_on l.row _ _ l.bin-index _ (omega arith) (rw goes at l.invariant.1),
+      drop-set-lt (l.bin-index + 1) l.row l.bin-index _ (omega arith) ∙ drop_more l.bin-index l.row a.row.now l.invariant.2,
+      sym rule ∙ sym (ap (in_rule l.before _) goes) ∙ l.invariant.3,
     )
 
-pub returns : goal.returns
+pub returns-clause-number : goal.returns-clause-number
 unfolding in_rule
-returns c = let a = c.args in
-    let l = c.loop-j in
-    let v = values_end a.line.now l.p 64 l.j c.loop-j-test.false in
-    let all : l.j ≡ 64 = omega arith in
-    (sym (ap (in_rule l.before _) v) ∙ l.invariant.3, λ e. sym (append-nil _) ∙ (rw (v, all) at l.invariant.1), l.invariant.4)
+returns-clause-number c = let l = c.loop-bin in
+    let v = values_end l.entries.line.now l.entries.at 64 l.bin-index (omega arith) in
+    ap (λ (good : Bool). cond good 0 13) (sym (ap (in_rule l.before _) v) ∙ l.invariant.3)
+
+pub returns-clause-row : goal.returns-clause-row
+returns-clause-row c = let l = c.loop-bin in
+    stored_end l.row _ _ l.bin-index (omega arith) (values_end l.entries.line.now l.entries.at 64 l.bin-index (omega arith)) l.invariant.1

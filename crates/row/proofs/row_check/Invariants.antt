@@ -1,20 +1,17 @@
--- `row::row_check` meets its contract. The loop's invariant: the entries read and those left are the row; from bin j on the scratch
--- still holds the row one level lower; the rules that are left to ask decide.
-use mathlib.Core.Path.{◌≡◌}
-use mathlib.Core.List.{◌++◌}
-use Prim.Native.Nat.{◌-◌, ◌≤◌}
-use lib.ListN.{length, take, drop}
-use Rattle.list.specs.declared.Kind.TheVariants.{Entry}
+-- `row::row_check` meets its contract. The loop's invariant: the entries read and those left are the row; from the next on the row one
+-- level lower still stands; the rules that are left to ask decide.
+use Rattle.std.proofs.Common.{◌≡◌, ◌-◌, ◌++◌, List, [], ℕ, cond, eqb, take, drop}
+use Rattle.token.specs.Token.{entry_at}
 use Rattle.list.specs.Items.{values_at}
-use Rattle.row.specs.Row.{in_rule, row_below}
+use Rattle.row.specs.Row.{in_rule}
 use Rattle.row.proofs.row_check.Given as goal
 
-abbrev pub invariant-loop-j : goal.invariant-loop-j
-invariant-loop-j l =
-    (l.j ≤ 64) × (take l.j l.scratch ++ values_at Entry l.line l.p (64 - l.j) ≡ values_at Entry l.line l.from 64) × (drop l.j l.scratch ≡ drop l.j l.initial.scratch)
-    × (in_rule l.before (drop l.j (row_below l.i l.initial.scratch)) (values_at Entry l.line l.p (64 - l.j))
-    ≡ in_rule 0 (row_below l.i l.initial.scratch) (values_at Entry l.line l.from 64))
-    × (length l.scratch ≡ length l.initial.scratch)
-
-abbrev pub decreases-loop-j : goal.decreases-loop-j
-decreases-loop-j l = 64 - l.j
+abbrev pub invariant-loop-bin : goal.invariant-loop-bin
+invariant-loop-bin l =
+    let lower : List ℕ = cond (eqb l.i 0) [] l.initial.row in
+    let whole : List ℕ = values_at entry_at l.initial.entries.line.now l.initial.entries.at 64 in
+    let left : List ℕ = values_at entry_at l.entries.line.now l.entries.at (64 - l.bin-index) in
+    (l.entries.read ≡ l.bin-index)
+    × (take l.bin-index l.row ++ left ≡ whole)
+    × (drop l.bin-index l.row ≡ drop l.bin-index l.initial.row)
+    × (in_rule l.before (drop l.bin-index lower) left ≡ in_rule 0 lower whole)

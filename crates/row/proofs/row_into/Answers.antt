@@ -1,40 +1,21 @@
--- `row::row_into` meets its contract. The loop's invariant: the entries read and those left are the row; those left are small.
-use borrow.Author.Rules.{rules}
-use native.Mathlib.Omega.{arith}
-use mathlib.Core.Path.{◌≡◌, refl, sym, ◌∙◌}
-use mathlib.Core.List.{append-nil}
-use Prim.Native.Nat.{◌+◌, ◌-◌, ◌*◌}
-use Rattle.row.proofs.Turn.{values_on, values_end, stored_on, small_first, small_rest}
+-- `row::row_into` meets its contract: a turn of the loop is one entry.
+use Rattle.std.proofs.Common.{ap, ◌∙◌, arith, ℕ, ◌+◌}
+use Rattle.row.proofs.Turn.{values_end, stored_on, stored_end, small_first, small_rest}
 use Rattle.row.proofs.row_into.Goals as goal
 
-pub loop-at-init : goal.loop-at-init
-loop-at-init c = let a = c.args in
-    let all : 64 * a.i + 64 - 64 * a.i ≡ 64 = omega arith in
-    (omega arith, omega arith, rw all, rw all c.requires.2, refl)
+pub overflow_cast-bin : goal.overflow_cast-bin
+overflow_cast-bin c = let l = c.loop-bin in
+    let goes = rw (c.next.ensures.read, l.invariant.0) at c.next.ensures.value in
+    omega (arith, small_first c.next.result _ (rw goes at l.invariant.2))
 
-pub overflow_cast-table : goal.overflow_cast-table
-overflow_cast-table c = let a = c.args in
-    let l = c.loop-at in
-    let v = values_on a.line.now l.p (64 * a.i + 64) l.at _ _ (omega (arith, c.loop-at-test.true)) c.entry-item.ensures.0 refl in
-    omega (arith, small_first c.entry-item.result.value _ (rw v at l.invariant.3))
-
-pub bounds-table-at : goal.bounds-table-at
-bounds-table-at c = omega (arith, c.loop-at.invariant.4, c.loop-at-test.true, c.requires.0, c.requires.1)
-
-pub loop-at-preserved : goal.loop-at-preserved
-loop-at-preserved c = let a = c.args in
-    let l = c.loop-at in
-    let v = values_on a.line.now l.p (64 * a.i + 64) l.at _ _ (omega (arith, c.loop-at-test.true)) c.entry-item.ensures.0 c.eat-p.ensures in (
-      omega arith,
-      omega arith,
-      stored_on l.table _ _ l.at _ (omega (arith, l.invariant.4, c.loop-at-test.true, c.requires.0, c.requires.1)) (rw v at l.invariant.2),
-      small_rest _ _ (rw v at l.invariant.3),
-      search rules,
+pub loop-bin-preserved : goal.loop-bin-preserved
+loop-bin-preserved c = let l = c.loop-bin in
+    let goes = rw (c.next.ensures.read, l.invariant.0) at c.next.ensures.value in (
+      c.next.ensures.read ∙ ap (λ (n : ℕ). n + 1) l.invariant.0,
+      stored_on l.row _ _ l.bin-index _ (omega arith) (rw goes at l.invariant.1),
+      small_rest _ _ (rw goes at l.invariant.2),
     )
 
 pub returns : goal.returns
-returns c = let a = c.args in
-    let l = c.loop-at in
-    let all : l.at ≡ 64 * a.i + 64 = omega (arith, c.loop-at-test.false) in
-    let v = values_end a.line.now l.p (64 * a.i + 64) l.at (omega (arith, all)) in
-    (sym (append-nil _) ∙ (rw (v, all) at l.invariant.2), l.invariant.4)
+returns c = let l = c.loop-bin in
+    stored_end l.row _ _ l.bin-index (omega arith) (values_end l.entries.line.now l.entries.at 64 l.bin-index (omega arith)) l.invariant.1

@@ -1,12 +1,9 @@
--- `text::digit_of` meets its contract: 0 to 9, or a to f.
-use borrow.Author.Tests.{lt-ltb, le-ltb}
+-- `text::digit_of` meets its contract: the digits stand in their order.
+use Rattle.std.proofs.Common.{ℕ, ◌∙◌, ap, get_or, arith}
 use Rattle.text.specs.Text.{digit}
+use Rattle.text.proofs.Glyphs.{glyphs, glyph_at}
 use Rattle.text.proofs.digit_of.Goals as goal
 
-pub returns-then-value-lt10 : goal.returns-then-value-lt10
+pub returns : goal.returns
 unfolding digit
-returns-then-value-lt10 c = simp (lt-ltb _ _ c.if-value-lt10.true)
-
-pub returns-else-value-lt10 : goal.returns-else-value-lt10
-unfolding digit
-returns-else-value-lt10 c = simp (le-ltb _ _ c.if-value-lt10.false)
+returns c = ap (λ (i : ℕ). get_or (glyphs 16 0) i 0) c.from.ensures ∙ glyph_at 16 0 _ _ (omega arith) c.requires

@@ -1,15 +1,23 @@
 -- `Device::begin` meets its contract.
-use Rattle.store.proofs.Laws.{begin_refused, begin_accepted, begin_narrow}
+use mathlib.Core.Path.{refl, ap, ◌∙◌}
+use lib.ListN.{length}
+use Rattle.model.specs.Refusals.{View}
+use Rattle.model.specs.Refusals.{begin_number}
+use Rattle.model.specs.Calls.{begin}
+use Rattle.store.proofs.Laws.{refused, accepted, at_phase, begin_narrow}
 use Rattle.store.proofs.Device.begin.Goals as goal
 
-pub returns-then-number-ne0 : goal.returns-then-number-ne0
-returns-then-number-ne0 c = let a = c.args in
-    begin_refused a.self a.image.now _ a.role a.unit a.payload.now c.begin_number-number.ensures c.if-number-ne0.true
+pub returns-in-Err : goal.returns-in-Err
+unfolding begin
+returns-in-Err c = let a = c.args in
+    refused a.self a.image.now _ _ _ _ c.refused.ensures (c.in-Err.ensures ∙ ap (λ (v : View). begin_number v a.role a.unit (length a.payload.now)) c.view.ensures.seen)
 
-pub zero_filled-held-requires : goal.zero_filled-held-requires
-zero_filled-held-requires c = let a = c.args in
-    begin_narrow a.self.plan a.self.payload a.self.phase a.image.now _ a.role a.unit a.payload.now c.begin_number-number.ensures c.if-number-ne0.false
+pub zero_filled-requires : goal.zero_filled-requires
+zero_filled-requires c = let a = c.args in
+    begin_narrow a.self.plan a.self.payload a.self.phase a.image.now a.role a.unit a.payload.now (c.in_default.ensures ∙ ap (λ (v : View). begin_number v a.role a.unit (length a.payload.now)) c.view.ensures.seen)
 
 pub returns : goal.returns
+unfolding begin
 returns c = let a = c.args in
-    begin_accepted a.self a.image.now _ a.role a.unit a.payload.now c.begin_number-number.ensures c.if-number-ne0.false _ c.zero_filled-held.ensures
+    accepted a.self a.image.now _ _ _ _ (c.in_default.ensures ∙ ap (λ (v : View). begin_number v a.role a.unit (length a.payload.now)) c.view.ensures.seen)
+    (at_phase a.self _ _ _ _ _ _ _ c.at.ensures refl c.zero_filled.ensures refl)

@@ -1,9 +1,0 @@
--- The loop's invariant: `at` is in the line.
-use Rattle.std.proofs.Common.{◌-◌, ◌≤◌}
-use Rattle.lists.proofs.rights_at.Given as goal
-
-abbrev pub invariant-loop-at : goal.invariant-loop-at
-invariant-loop-at l = l.at ≤ 8
-
-abbrev pub decreases-loop-at : goal.decreases-loop-at
-decreases-loop-at l = 8 - l.at
