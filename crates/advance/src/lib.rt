@@ -34,7 +34,7 @@ fn write_next(span: Span, bytes: &[u8], made: u16, image: &mut [u8]) -> Result<b
     ensures { Made span bytes.now made image.old image.new result }
 {
     let choice = write_choice(span, bytes, made).ok_or(Refusal::BadJob)?;
-    store_at(image, span, choice);
+    store_at(image, span, choice.at, choice.byte);
     Ok(choice.last)
 }
 
@@ -114,7 +114,7 @@ fn step_cleaning(
     ensures { StepsTo plan payload.old payload.new (Recovering unit made direction) image.old image.new result }
 {
     let choice = clean_choice(span, image, made, direction).ok_or(Refusal::BadJob)?;
-    store_at(image, span, choice);
+    store_at(image, span, choice.at, choice.byte);
     if choice.last {
         let found = cleanup_from(plan, image, unit + 1);
         return Ok(resume(plan, payload, image, found));

@@ -40,8 +40,11 @@ module _ {p : Plan} {payload : List ℕ} {i : ℕ} {r : Part} (found : PartOf p 
       stores_same p r.unit (drop r.from payload) (write_at p payload i).bytes found.bytes
       ∙ ap (λ (u : ℕ). write_stores p u (write_at p payload i).bytes) found.unit
 
+  pub part_good : bad_write p payload i ≡ false
+  part_good = found.good
+
   pub part_there : PlanOk p → r.unit < p.count
-  part_there ok = subst (λ (u : ℕ). u < p.count) (sym found.unit) (part_sized p ok payload i found.good).unit
+  part_there ok = subst (λ (u : ℕ). u < p.count) (sym found.unit) (part_sized p ok payload i part_good).unit
 
   pub part_made : (made : ℕ) → bad_job p payload (grouping i made) ≡ false → made < write_total (width p r.unit)
   unfolding bad_job

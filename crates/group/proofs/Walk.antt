@@ -1,12 +1,12 @@
 -- Bytes gone through member by member.
-use Prim.Native.Nat.{ℕ, zero, suc, ◌-◌, ◌≤◌, ◌<◌}
+use Prim.Native.Nat.{ℕ, zero, suc, ◌+◌, ◌-◌, ◌≤◌, ◌<◌}
 use mathlib.Core.Path.{◌≡◌, refl, ap, sym, ◌∙◌}
 use mathlib.Core.List.{List, [], ◌∷◌}
 use mathlib.Core.Bool.{Bool, true, false, ◌||◌, ◌&&◌, false≢true}
 use native.Mathlib.Omega.{arith}
 use lib.Dec.{ltb, leb}
 use lib.ListN.{length, get_or, take, drop, length-drop}
-use lib.Seq.{take_all}
+use lib.Seq.{take_all, drop-cons, drop-drop}
 use borrow.Author.Tests.{ltb-true, leb-true, eq-eqb, ne_eqb}
 use Rattle.model.specs.declared.Plan.{Plan}
 use Rattle.model.specs.Plans.{width}
@@ -71,6 +71,71 @@ opens {p} {g} {rest} {u} {behind} {F} goes (q, h, b) n e = rw (b, q) (go rest (o
     go (x ∷ xs) h (suc k) ex sa =
         let a = and_true (ltb x p.count && leb (width p x) (length xs)) _ ex in
         record { k = k; small = ltb-true x p.count (and_true (ltb x p.count) _ a.0).0; exact = a.1; same = sa }
+
+-- ---- the same where the members that are left begin at a place of the bytes
+module _ (p : Plan) (g : List ℕ) (at : ℕ) (h : at < length g) where
+  abbrev unit : ℕ
+  unit = get_or g at 0
+
+  abbrev wide : ℕ
+  wide = width p unit
+
+  abbrev behind : List ℕ
+  behind = drop (at + 1 + wide) g
+
+  behind_is : drop wide (drop (suc at) g) ≡ behind
+  behind_is = drop-drop wide (suc at) g ∙ ap (λ (n : ℕ). drop n g) {x = suc at + wide} {y = at + 1 + wide} (omega arith)
+
+  splits_at : (k : ℕ) → splits p (suc k) (drop at g) ≡ (ltb unit p.count && leb wide (length (drop (suc at) g))) && splits p k behind
+  unfolding splits
+  splits_at k =
+      ap (splits p (suc k)) (drop-cons g at 0 h)
+      ∙ ap (λ (xs : List ℕ). (ltb unit p.count && leb wide (length (drop (suc at) g))) && splits p k xs) behind_is
+
+  split_at : (k : ℕ) → split p (suc k) (drop at g) ≡ write unit (take wide (drop (suc at) g)) ∷ split p k behind
+  unfolding split
+  split_at k =
+      ap (split p (suc k)) (drop-cons g at 0 h)
+      ∙ ap (λ (xs : List ℕ). write unit (take wide (drop (suc at) g)) ∷ split p k xs) behind_is
+
+pub goes_end_at : {p : Plan} {g : List ℕ} {at : ℕ} {F : List Write → Bool} → Goes p g (drop at g) F → length g ≤ at
+    → (n : ℕ) → splits p n g ≡ true → F (split p n g) ≡ F []
+goes_end_at {p} {g} {at} goes h n e = goes_end goes (omega (arith, length-drop at g)) n e
+
+pub record OpenedAt (p : Plan) (g : List ℕ) (at n : ℕ) (F : List Write → Bool) : Type 0 where
+  pub k : ℕ
+  pub small : get_or g at 0 < p.count
+  pub fits : width p (get_or g at 0) < length g - at
+  pub exact : splits p k (drop (at + 1 + width p (get_or g at 0)) g) ≡ true
+  pub same : F (split p n g)
+      ≡ F (write (get_or g at 0) (take (width p (get_or g at 0)) (drop (suc at) g)) ∷ split p k (drop (at + 1 + width p (get_or g at 0)) g))
+
+pub opens_at : {p : Plan} {g : List ℕ} {at : ℕ} {F : List Write → Bool} → Goes p g (drop at g) F → at < length g
+    → (n : ℕ) → splits p n g ≡ true → OpenedAt p g at n F
+unfolding splits
+opens_at {p} {g} {at} {F} goes h n e = go l.k l.exact l.same
+  where
+    l : Left p g (drop at g) n F
+    l = goes n e
+
+    go : (k : ℕ) → splits p k (drop at g) ≡ true → F (split p n g) ≡ F (split p k (drop at g)) → OpenedAt p g at n F
+    go zero ex sa = absurd (false≢true (sym (ap (splits p 0) (drop-cons g at 0 h)) ∙ ex))
+    go (suc k) ex sa =
+        let a = and_true (ltb (get_or g at 0) p.count && leb (width p (get_or g at 0)) (length (drop (suc at) g))) _
+        (sym (splits_at p g at h k) ∙ ex) in
+        let b = and_true (ltb (get_or g at 0) p.count) _ a.0 in
+        record {
+          k = k;
+          small = ltb-true _ p.count b.0;
+          fits = omega (arith, leb-true (width p (get_or g at 0)) (length (drop (suc at) g)) b.1, length-drop (suc at) g);
+          exact = a.1;
+          same = sa ∙ ap F (split_at p g at h k);
+        }
+
+-- a member that the bytes end in stands in no number of members
+pub short_not : {p : Plan} {g : List ℕ} {at : ℕ} {F : List Write → Bool} → Goes p g (drop at g) F → (w : ℕ) → at < length g
+    → w ≡ width p (get_or g at 0) → length g - at ≤ w → {t : Bool} → (n : ℕ) → splits p n g ≡ true → t ≡ F (split p n g)
+short_not goes w h q l n s = absurd (omega (arith, (opens_at goes h n s).fits))
 
 -- ---- a unit among the members
 module _ {p : Plan} {g rest : List ℕ} {u member : ℕ} {behind : List ℕ} (goes : Goes p g rest (among u)) (begins : Begins p rest member behind) where

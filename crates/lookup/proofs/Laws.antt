@@ -133,7 +133,7 @@ module _ (p : Plan) (ok : PlanOk p) (u : ℕ) (h : u < p.count) where
   span_inside n r l is = rw is (omega (arith, base_bound p ok u p.count h))
 
   -- the lookup doesn't refuse what the row lets pass
-  looked_up : (n : ℕ) → total p ≤ n → (e : Refusal) → ((late : Bool) → number_of e ≡ job_row p u n late) → ⊥
+  pub looked_up : (n : ℕ) → total p ≤ n → (e : Refusal) → ((late : Bool) → number_of e ≡ job_row p u n late) → ⊥
   looked_up n l e is =
       number_some e
       (is false

@@ -25,13 +25,13 @@ fn put(span: &mut [u8], at: usize, byte: u8)
 }
 
 // Makes a store in a unit; the storing routine is lent the unit's span alone.
-pub fn store_at(image: &mut [u8], span: Span, store: Choice)
-    requires { (span.base + store.at < span.end) × (span.end ≤ length image.old) }
-    ensures { image.new ≡ set image.old (span.base + store.at) store.byte }
+pub fn store_at(image: &mut [u8], span: Span, at: u32, byte: u8)
+    requires { (span.base + at < span.end) × (span.end ≤ length image.old) }
+    ensures { image.new ≡ set image.old (span.base + at) byte }
 {
     let first = span.base as usize;
     let past = span.end as usize;
-    put(&mut image[first..past], store.at as usize, store.byte);
+    put(&mut image[first..past], at as usize, byte);
 }
 
 // Each bit is the new code's where m has a 1, and the old marker's where m has a 0.

@@ -11,7 +11,7 @@ use Rattle.model.specs.Calls.{Outcome}
 use Rattle.text.specs.declared.Page.{Page}
 use Rattle.play.specs.Plays.{Buffer, Printed, word, is_plan, Plays}
 
-told_one : (form : Form) (o : Outcome) (a : Answer) (r : Option Device) (left w : List ℕ) (before after : Page) → word form ≡ Some w
+pub told_one : (form : Form) (o : Outcome) (a : Answer) (r : Option Device) (left w : List ℕ) (before after : Page) → word form ≡ Some w
     → is_plan form ≡ false → Gives a left o
     → (r ≡ Some a.device) × Printed before (answer_line w a.number) after × Buffer after
     → Plays form o r left before after

@@ -1,6 +1,6 @@
 // The bench program's work, document 01, 'Bench program': plays a script line by line on the save store, and prints.
 // All lines are put onto one page, in lent memory; `flush` alone writes it out, to the writer that is handed down to it. Its users are
-// our own programs, which lend it room enough.
+// our own programs, for which `run_input` makes room enough.
 #![tactic(auto)]
 
 ghost use Rattle.std.specs.Prelude.{◌≡◌, Some, ◌+◌, ◌<◌, ◌≤◌, length, take, IfOk, OnErr};
@@ -178,7 +178,8 @@ fn play_lines<W: io::Write>(
 ) -> io::Result<()>
     requires { (from ≤ length text.now + 1) × (length text.now ≤ 65536) × (0 < from)
         × Held plan image.old × Buffer printer.old.page }
-    ensures { IfOk result (λ _. Buffer printer.new.page) }
+    ensures printed { IfOk result (λ _. Buffer printer.new.page) }
+    ensures size { length printer.new.page.bytes.now ≡ length printer.old.page.bytes.now }
 {
     let mut at = from;
     let mut number: usize = 1;
@@ -209,7 +210,8 @@ fn play_plan<W: io::Write>(
 ) -> io::Result<()>
     requires { (from ≤ length text.now + 1) × (length text.now ≤ 65536) × (0 < from)
         × (4224 ≤ length image.old) × Buffer printer.old.page }
-    ensures { IfOk result (λ _. Buffer printer.new.page) }
+    ensures printed { IfOk result (λ _. Buffer printer.new.page) }
+    ensures size { length printer.new.page.bytes.now ≡ length printer.old.page.bytes.now }
 {
     let started = Device::start(plan);
     if started.number != 0 {
@@ -232,7 +234,8 @@ fn run<W: io::Write>(
     image: &mut [u8],
 ) -> io::Result<()>
     requires { (4224 ≤ length image.old) × Buffer printer.old.page }
-    ensures { IfOk result (λ _. Buffer printer.new.page) }
+    ensures printed { IfOk result (λ _. Buffer printer.new.page) }
+    ensures size { length printer.new.page.bytes.now ≡ length printer.old.page.bytes.now }
 {
     if TEXT_MOST < text.len() {
         return printer.print(b"bad", 0);

@@ -1,10 +1,10 @@
 -- A list of calls as the code reads it, call by call, and as it plays it.
-use Prim.Native.Nat.{ℕ, zero, suc, ◌+◌, ◌≤◌, ◌<◌}
+use Prim.Native.Nat.{ℕ, zero, suc, ◌+◌, ◌-◌, ◌≤◌, ◌<◌}
 use mathlib.Core.Path.{◌≡◌, refl, ap, ap₂, sym, ◌∙◌}
 use mathlib.Core.List.{List, [], ◌∷◌}
 use native.Mathlib.Omega.{arith}
-use lib.ListN.{length, get_or, take, drop}
-use lib.Seq.{drop-cons}
+use lib.ListN.{length, get_or, take, drop, length-drop}
+use lib.Seq.{drop-cons, drop-drop, get_or-drop}
 use Rattle.std.proofs.lemmas.List.{get_or-take}
 use borrow.Author.Tests.{le-leb, lt-leb}
 use Rattle.model.specs.Calls.{Device, Outcome, outcome}
@@ -108,3 +108,31 @@ module _ (bytes head rest : List ℕ) (h : head ≡ take 5 bytes) (r : rest ≡ 
         said 1 (omega arith),
         said 2 (omega arith),
       )
+
+-- the same at a place of the bytes, and a turn of a walk that stands there
+module _ (bytes : List ℕ) (at unit size : ℕ) (eu : unit ≡ two (get_or bytes (at + 1) 0) (get_or bytes (at + 1 + 1) 0))
+    (es : size ≡ two (get_or bytes (at + 3) 0) (get_or bytes (at + 3 + 1) 0)) where
+  there : (i k : ℕ) → i < 5 → at + i ≡ k → get_or (take 5 (drop at bytes)) i 0 ≡ get_or bytes k 0
+  there i k l e = get_or-take 5 (drop at bytes) i 0 l ∙ get_or-drop at bytes i 0 ∙ ap (λ (j : ℕ). get_or bytes j 0) e
+
+  next_at : at + 5 + size ≤ length bytes
+      → calls_from at bytes ≡ call_of (get_or bytes at 0) unit (take size (drop (at + 5) bytes)) ∷ calls_from (at + 5 + size) bytes
+  next_at l =
+      let own : List ℕ = take size (drop (at + 5) bytes) in
+      let past : drop 5 (drop at bytes) ≡ drop (at + 5) bytes = drop-drop 5 at bytes in
+      skip at bytes
+      ∙ next (drop at bytes) (take 5 (drop at bytes)) (drop 5 (drop at bytes)) refl refl (omega (arith, length-drop at bytes))
+      size (es ∙ sym (ap₂ two (there 3 (at + 3) (omega arith) refl) (there 4 (at + 3 + 1) (omega arith) (omega arith))))
+      unit (eu ∙ sym (ap₂ two (there 1 (at + 1) (omega arith) refl) (there 2 (at + 1 + 1) (omega arith) (omega arith))))
+      own (drop size (drop (at + 5) bytes)) (omega (arith, length-drop at bytes, length-drop 5 (drop at bytes)))
+      (sym (ap (take size) past)) (sym (ap (drop size) past))
+      ∙ ap₂ (λ (kind : ℕ) (cs : List Call). call_of kind unit own ∷ cs) (there 0 at (omega arith) (omega arith))
+      (ap calls_of (drop-drop size (at + 5) bytes) ∙ sym (skip (at + 5 + size) bytes))
+
+  pub turn : at + 5 + size ≤ length bytes → (n : ℕ) (d : Device) (image : List ℕ) (r : Answer) (left : List ℕ)
+      → Gives r left (call (call_of (get_or bytes at 0) unit (take (at + 5 + size - (at + 5)) (drop (at + 5) bytes))) (outcome 0 d image))
+      → run (calls_from (at + 5 + size) bytes) (outcome r.number (modelled r.device) left)
+      ≡ run (calls_from at bytes) (outcome n d image)
+  turn l n d image r left g =
+      let z : at + 5 + size - (at + 5) ≡ size = omega arith in
+      goes_on _ _ n d image r left (rw z at g) ∙ ap (λ (cs : List Call). run cs (outcome n d image)) (sym (next_at l))

@@ -34,12 +34,17 @@ use Rattle.search.proofs.Search.{named, found_named}
 pub judged : {v w : View} {p q : Plan} {xs ys : List ℕ} (row : View → Plan → List ℕ → ℕ) → v ≡ w → p ≡ q → xs ≡ ys → row v p xs ≡ row w q ys
 judged row e f h = λ i. row (e i) (f i) (h i)
 
+-- ---- k is the number that a call answers, n the definition's
+pub refused_by : (d : Device) (image : List ℕ) (k n : ℕ) (o : Outcome) → k ≡ n → ¬ (k ≡ 0)
+    → Gives (record { number = k; device = d }) image (unless_refused n (modelled d) image o)
+refused_by d image k zero o e h = absurd (h e)
+refused_by d image k (suc n) o e h = record { number = e; device = refl; image = refl }
+
 -- ---- a refused call gives the device as it came; e is the code's refusal, n the definition's number
 module _ (d : Device) (image : List ℕ) where
   pub refused : (e : Refusal) (n : ℕ) (o : Outcome) (r : Answer) → r ≡ record { number = number_of e; device = d } → number_of e ≡ n
       → Gives r image (unless_refused n (modelled d) image o)
-  refused e zero o r is h = absurd (number_some e h)
-  refused e (suc n) o r is h = rw is (record { number = h; device = refl; image = refl })
+  refused e n o r is h = rw is (refused_by d image (number_of e) n o h (number_some e))
 
   -- an accepted one's outcome is the definition's
   pub accepted : (n : ℕ) (o : Outcome) (r : Answer) (left : List ℕ) → 0 ≡ n → Gives r left o → Gives r left (unless_refused n (modelled d) image o)

@@ -1,8 +1,8 @@
 -- What a paid ride has room for.
 use Prim.Native.Nat.{ℕ, ◌+◌, ◌<◌}
-use mathlib.Core.Path.{◌≡◌, refl, sym, ◌∙◌}
+use mathlib.Core.Path.{◌≡◌, refl, ap, sym, ◌∙◌}
 use mathlib.Core.List.{List, [], ◌∷◌, ◌++◌}
-use mathlib.Core.Bool.{not, false, ◌||◌}
+use mathlib.Core.Bool.{Bool, not, true, false, ◌||◌}
 use lib.Dec.{eqb, ltb}
 use native.Mathlib.Omega.{arith}
 use lib.ListN.{length}
@@ -20,7 +20,7 @@ use Rattle.model.specs.Numbers.{number_of}
 use Rattle.model.specs.declared.refusals.Refusal as refusals
 use Rattle.model.specs.Refusals as rows
 use Rattle.model.specs.Refusals.{Refusal, ◌when◌, first, is_ready, device_row, no_till, paid_number}
-use Rattle.model.proofs.RefusalLaws.{first_skip}
+use Rattle.model.proofs.RefusalLaws.{first_stop, first_skip, first_none}
 use Rattle.model.proofs.LayoutLaws.{copy_length_lem}
 use Rattle.model.proofs.GroupLaws.{last_lt}
 use Rattle.model.proofs.PaidLaws.{till}
@@ -70,3 +70,11 @@ module _ (v : rows.View) (x y : List ℕ) (turns : ℕ) (before : 0 ≡ first (d
 
   pub by_sums : {n : ℕ} → 0 ≡ first (marks ∷ []) → n ≡ first (sums ∷ []) → n ≡ paid_number v x y turns
   by_sums m e = behind (passed_by (marks ∷ []) (sums ∷ []) refl m e)
+
+-- ---- a number that is given where one of two conditions holds: by the other alone, and by the first alone
+pub none_left : (n : ℕ) (x y : Bool) → x ≡ false → first (n when (x || y) ∷ []) ≡ first (n when y ∷ [])
+none_left n x y h = ap (λ (t : Bool). first (n when (t || y) ∷ [])) h
+
+pub by_first : {k : ℕ} (n : ℕ) (x y : Bool) → k ≡ first (n when x ∷ []) → ¬ (k ≡ 0) → k ≡ first (n when (x || y) ∷ [])
+by_first n true y e h = e ∙ first_stop n true [] refl ∙ sym (first_stop n true [] refl)
+by_first n false y e h = absurd (h (e ∙ first_skip n false [] refl ∙ first_none))

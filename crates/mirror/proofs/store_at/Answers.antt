@@ -13,4 +13,4 @@ returns c = let a = c.args in
     let s = a.span in
     let size = s.end - s.base in
     ap (λ (t : List ℕ). take s.base xs ++ (t ++ drop size (drop s.base xs))) c.put.ensures
-    ∙ set_part xs s.base size a.store.at a.store.byte (omega (arith, c.requires)) (omega (arith, c.requires))
+    ∙ set_part xs s.base size a.at a.byte (omega (arith, c.requires)) (omega (arith, c.requires))
