@@ -1,11 +1,15 @@
 -- How far members reach.
 use Prim.Native.Nat.{ℕ, zero, suc, ◌+◌, ◌-◌, ◌≤◌, ◌<◌}
-use mathlib.Core.Path.{◌≡◌, refl, ap, ◌∙◌}
+use mathlib.Core.Path.{◌≡◌, refl, ap, ap₂, ◌∙◌}
 use mathlib.Core.List.{List, [], ◌∷◌}
+use mathlib.Core.Bool.{true, ◌&&◌}
 use native.Mathlib.Omega.{arith}
-use lib.ListN.{length, get_or, drop, length-drop, length-take}
+use lib.Dec.{eqb}
+use lib.ListN.{length, get_or, drop, replicate, length-drop, length-take}
+use lib.Seq.{drop-cons}
 use Rattle.model.specs.declared.Plan.{Plan}
 use Rattle.model.specs.Plans.{width}
+use Rattle.model.specs.Groups.{alike}
 use Rattle.group.specs.Parts.{extent}
 use Rattle.group.specs.Members.{Begins, Short}
 use Rattle.group.proofs.Walk.{past_end}
@@ -69,3 +73,17 @@ module _ {p : Plan} {g rest : List ℕ} {members n : ℕ} (r : Reached p g rest 
           ap (extent p k) begins.2,
         );
       }
+
+-- ---- bytes that are zeros, from a place on
+pub zeros_more : (g : List ℕ) (at : ℕ) → at < length g
+    → alike (replicate (length g - at) 0) (drop at g) ≡ eqb 0 (get_or g at 0) && alike (replicate (length g - (at + 1)) 0) (drop (at + 1) g)
+unfolding alike
+zeros_more g at h =
+    ap₂ alike
+    (ap (λ (k : ℕ). replicate {A = ℕ} k 0) {x = length g - at} {y = suc (length g - (at + 1))} (omega arith))
+    (drop-cons g at 0 h ∙ ap (λ (k : ℕ). get_or g at 0 ∷ drop k g) {x = suc at} {y = at + 1} (omega arith))
+
+pub zeros_end : (g : List ℕ) (at : ℕ) → at ≡ length g → alike (replicate (length g - at) 0) (drop at g) ≡ true
+unfolding alike
+zeros_end g at h =
+    ap₂ alike (ap (λ (k : ℕ). replicate {A = ℕ} k 0) {x = length g - at} {y = 0} (omega arith)) (past_end g at (omega arith))

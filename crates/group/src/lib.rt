@@ -134,7 +134,13 @@ pub fn check_group(plan: Plan, bytes: &[u8]) -> Result<(), Refusal>
 fn only_zeros(bytes: &[u8]) -> bool
     ensures { result ≡ alike (replicate (length bytes.now) 0) bytes.now }
 {
-    bytes.iter().all(|byte| *byte == 0)
+    // by `all` the compiler keeps the place in memory, a load and a store for every byte
+    for byte in bytes {
+        if *byte != 0 {
+            return false;
+        }
+    }
+    true
 }
 
 // Whether bytes are a record that a group gives which refusals 19 to 21 let pass: those of the record unit, or of a payload.

@@ -14,6 +14,7 @@ use model::refusals::Refusal;
 use refusal::View;
 
 // 8, if a member's marker isn't OK, of the members that the bytes are.
+#[inline(always)]
 fn check_members(view: View, bytes: &[u8]) -> Result<(), Refusal>
     requires { PlanOk view.plan × (total view.plan ≤ length view.image.now) × (unsplit view.plan bytes.now ≡ false) }
     ensures { numbered result ≡ first (8 when dirty (seen view.entry).marker (members view.entry.plan bytes.now) ∷ []) }
@@ -27,6 +28,7 @@ fn check_members(view: View, bytes: &[u8]) -> Result<(), Refusal>
 }
 
 // Refusals 1 to 5, 19 to 21 and 8 of a group, in this order.
+#[inline(always)]
 #[tactic(auto, using(refusal::proofs::Laws::rows, crate::proofs::Laws::row_of_group), unfolding(model::specs::Refusals::first))]
 pub fn check_group(view: View, bytes: &[u8]) -> Result<(), Refusal>
     ensures { numbered result ≡ group_number (seen view.entry) bytes.now }

@@ -92,10 +92,13 @@ fn word(kind: Kind) -> &'static str {
     }
 }
 
-// Bytes, each after a space, to the end of a line.
+// Bytes, each after a space, to the end of a line. Each goes out in one piece: the writer keeps nothing, and `write!` makes two pieces of
+// it, or three.
 fn say_bytes<W: Write>(out: &mut W, bytes: &[u8]) -> io::Result<()> {
+    let digits = b"0123456789abcdef";
     for byte in bytes {
-        write!(out, " {byte:02x}")?;
+        let (high, low) = (usize::from(byte / 16), usize::from(byte % 16));
+        out.write_all(&[b' ', digits[high], digits[low]])?;
     }
     writeln!(out)
 }

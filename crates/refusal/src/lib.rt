@@ -41,6 +41,7 @@ fn idle(phase: Phase) -> bool
 }
 
 // What a call is judged by: a device's plan, payload and phase, and the lent image.
+// The checks are laid out in place, `inline(always)`: else each call copies the view on the way (docs/DESIGN-PASS.md, 'Speed').
 #[derive(Clone, Copy)]
 pub struct View<'a> {
     pub plan: Plan,
@@ -52,6 +53,7 @@ pub struct View<'a> {
 #[tactic(auto, using(crate::proofs::Laws::rows), unfolding(model::specs::Refusals::first, model::specs::Refusals::inspect_number, model::specs::Refusals::format_number, model::specs::Refusals::step_number, model::specs::Refusals::cut_number, model::specs::Refusals::wake_number, model::specs::Refusals::begin_number, model::specs::Refusals::read_number, model::specs::Layout::get))]
 impl View<'_> {
     // Refusals 1 to 4, which every call gives.
+    #[inline(always)]
     pub fn check_device(self) -> Result<(), Refusal>
         ensures { numbered result ≡ inspect_number (seen self.entry) }
     {
@@ -59,6 +61,7 @@ impl View<'_> {
     }
 
     // Refusals 1 to 5.
+    #[inline(always)]
     fn check_phase(self, wrong: bool) -> Result<(), Refusal>
         ensures { numbered result ≡ first (device_row (seen self.entry) ++ (5 when wrong ∷ [])) }
     {
@@ -70,6 +73,7 @@ impl View<'_> {
     }
 
     // Refusals 1 to 4 of cut, and 18 for other than a page's number of bytes.
+    #[inline(always)]
     pub fn check_cut(self, size: usize) -> Result<(), Refusal>
         ensures { numbered result ≡ cut_number (seen self.entry) size }
     {
@@ -81,6 +85,7 @@ impl View<'_> {
     }
 
     // Refusals 1 to 5 of the calls that want a Ready device.
+    #[inline(always)]
     pub fn check_ready(self) -> Result<(), Refusal>
         ensures { numbered result ≡ first (device_row (seen self.entry) ++ (5 when not (is_ready (job_of self.entry.phase)) ∷ [])) }
     {
@@ -88,6 +93,7 @@ impl View<'_> {
     }
 
     // Refusals 1 to 5 of format.
+    #[inline(always)]
     pub fn check_format(self) -> Result<(), Refusal>
         ensures { numbered result ≡ format_number (seen self.entry) }
     {
@@ -95,6 +101,7 @@ impl View<'_> {
     }
 
     // Refusals 1 to 5 of step.
+    #[inline(always)]
     pub fn check_step(self) -> Result<(), Refusal>
         ensures { numbered result ≡ step_number (seen self.entry) }
     {
@@ -102,6 +109,7 @@ impl View<'_> {
     }
 
     // 8, if that unit's marker isn't OK.
+    #[inline(always)]
     pub fn check_marker(self, unit: u16) -> Result<(), Refusal>
         requires { PlanOk self.plan × (total self.plan ≤ length self.image.now) × (unit < self.plan.count) }
         ensures { numbered result ≡ first (8 when not (eqb (get self.entry.plan self.entry.image.now unit marker) OK) ∷ []) }
@@ -114,6 +122,7 @@ impl View<'_> {
     }
 
     // Refusals 1 to 6, 20, 22, 7 and 8 of begin with a payload of `size` bytes, in this order.
+    #[inline(always)]
     pub fn check_begin(self, role: Role, unit: u16, size: usize) -> Result<(), Refusal>
         ensures { numbered result ≡ begin_number (seen self.entry) role unit size }
     {
@@ -134,6 +143,7 @@ impl View<'_> {
     }
 
     // Refusals 1 to 6, 22 and 8 of read, in this order.
+    #[inline(always)]
     pub fn check_read(self, role: Role, unit: u16) -> Result<(), Refusal>
         ensures { numbered result ≡ read_number (seen self.entry) role unit }
     {
@@ -148,6 +158,7 @@ impl View<'_> {
     }
 
     // Refusals 1 to 5 of wake, which are format's, and 14.
+    #[inline(always)]
     pub fn check_wake(self) -> Result<(), Refusal>
         ensures { numbered result ≡ wake_number (seen self.entry) }
     {

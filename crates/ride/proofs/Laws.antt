@@ -15,7 +15,7 @@ use Rattle.model.specs.Turns.{amount}
 use Rattle.model.specs.Refusals.{◌when◌, Refusal, read_number, total_number}
 use Rattle.model.specs.Calls.{view_of}
 use Rattle.model.proofs.RefusalLaws.{PlanOk, count_bounds, first_past, first_front, first_passed}
-use Rattle.model.proofs.LayoutLaws.{copy_length_lem}
+use Rattle.model.proofs.LayoutLaws.{copy_length_lem, copy_room, base_bound}
 
 -- copy A of unit 0 is the eight bytes after its marker's page
 pub total_part : (p : Plan) (image : List ℕ) → width p 0 ≡ 8 → take 8 (drop p.page image) ≡ copy_of p image 0 copy_a
@@ -30,6 +30,13 @@ first_unit p ok = (count_bounds p ok).0
 
 pub eight_held : (p : Plan) (image : List ℕ) → PlanOk p → total p ≤ length image → width p 0 ≡ 8 → length (copy_of p image 0 copy_a) ≡ 8
 eight_held p image ok long w = copy_length_lem p ok image 0 copy_a (first_unit p ok) long ∙ w
+
+pub eight_inside : (p : Plan) (image : List ℕ) → PlanOk p → total p ≤ length image → width p 0 ≡ 8 → p.page + 8 ≤ length image
+eight_inside p image ok long w = omega (arith, w, copy_room p ok 0, base_bound p ok 0 p.count (first_unit p ok), long)
+
+-- what the code adds up there is what copy A holds
+pub held_amount : (p : Plan) (image : List ℕ) → width p 0 ≡ 8 → amount (take 8 (drop p.page image)) ≡ amount (copy_of p image 0 copy_a)
+held_amount p image w = ap amount (total_part p image w)
 
 -- the part of the image that the code lends, from its first byte and the byte past its last
 pub eight_from : (page : ℕ) (image : List ℕ) → amount (take (page + 8 - page) (drop page image)) ≡ amount (take 8 (drop page image))

@@ -13,13 +13,13 @@ use amount::{amount_of, bytes_of};
 use format::zero_filled;
 use group::is_record;
 use layout::width_of;
-use lookup::copy_a;
 use model::Role;
 use model::refusals::Refusal;
 use refusal::View;
 
 // Refusals 1 to 5, 16, 20, 8 and 15 of a ride, in this order.
-#[tactic(auto, using(refusal::proofs::Laws::rows, crate::proofs::Laws::first_unit, crate::proofs::Laws::eight_held), unfolding(model::specs::Refusals::first, model::specs::Refusals::ride_number))]
+#[inline(always)]
+#[tactic(auto, using(refusal::proofs::Laws::rows, crate::proofs::Laws::first_unit, crate::proofs::Laws::eight_inside, crate::proofs::Laws::eight_from, crate::proofs::Laws::held_amount), unfolding(model::specs::Refusals::first, model::specs::Refusals::ride_number))]
 pub fn check_ride(view: View, turns: u64) -> Result<(), Refusal>
     ensures { numbered result ≡ ride_number (seen view.entry) (copy_of view.entry.plan view.entry.image.now 0 copy_a) turns }
 {
@@ -31,7 +31,8 @@ pub fn check_ride(view: View, turns: u64) -> Result<(), Refusal>
         return Err(Refusal::UnitTaken);
     }
     view.check_marker(0)?;
-    let total = amount_of(copy_a(view.plan, view.image, 0));
+    let first = usize::from(view.plan.page);
+    let total = amount_of(&view.image[first..first + 8]);
     total.checked_add(turns).ok_or(Refusal::SumTooLarge)?;
     Ok(())
 }
@@ -48,6 +49,7 @@ pub fn ridden(page: u16, image: &[u8], turns: u64) -> [u8; 256]
 }
 
 // Refusals of a unit's total: read's, and then 16.
+#[inline(always)]
 #[tactic(auto, using(refusal::proofs::Laws::rows), unfolding(model::specs::Refusals::first, model::specs::Refusals::read_number, model::specs::Refusals::total_number))]
 pub fn check_total(view: View, role: Role, unit: u16) -> Result<(), Refusal>
     ensures { numbered result ≡ total_number (seen view.entry) role unit }

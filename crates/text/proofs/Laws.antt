@@ -1,5 +1,5 @@
 -- A text is written piece by piece.
-use Rattle.std.proofs.Common.{◌≡◌, ℕ, suc, ◌+◌, ◌<◌, ◌≤◌, List, [], ◌∷◌, ◌++◌, length, get_or, take, refl, ap, sym, ◌∙◌, subst, arith, length-append, append_assoc}
+use Rattle.std.proofs.Common.{◌≡◌, ℕ, suc, ◌+◌, ◌<◌, ◌≤◌, List, [], ◌∷◌, ◌++◌, length, get_or, take, set, refl, ap, sym, ◌∙◌, subst, arith, length-append, append_assoc}
 use Rattle.std.proofs.Math.Nat.{add-zero}
 use Rattle.std.proofs.lemmas.List.{take_more}
 use Rattle.std.proofs.lemmas.List.Edits.{sets, sets-eq, paste_all}
@@ -8,6 +8,7 @@ use borrow.Rule.Slice.PartMut.{put_mid}
 use Prim.Native.Char.{code}
 use Rattle.text.specs.declared.Page.{Page}
 use Rattle.text.specs.Text.{hex, bytes_text}
+use Rattle.text.specs.Wrote.{Wrote}
 use Rattle.text.specs.Appended.{Appended}
 
 sets_append : (xs l : List ℕ) (i : ℕ) (ys : List ℕ) → sets (sets l i xs) (i + length xs) ys ≡ sets l i (xs ++ ys)
@@ -15,6 +16,24 @@ sets_append [] l i ys = rw add-zero
 sets_append (x ∷ xs) l i ys =
     let e : i + suc (length xs) ≡ suc i + length xs = omega arith in
     rw e (sets_append xs _ (suc i) ys)
+
+pub wrote_none : (l : List ℕ) (i : ℕ) → Wrote l i [] l i
+wrote_none l i = record { bytes = refl; place = omega arith }
+
+-- one text, and another at the place past it
+pub wrote_then : {l l1 l2 xs ys : List ℕ} {i p q : ℕ} → Wrote l i xs l1 p → Wrote l1 p ys l2 q → Wrote l i (xs ++ ys) l2 q
+wrote_then {l} {l1} {l2} {xs} {ys} {i} {p} {q} a b =
+    record { bytes = cc (sets_append xs l i ys); place = omega (arith, length-append xs ys) }
+
+pub wrote_as : {l l1 xs ys : List ℕ} {i p : ℕ} → xs ≡ ys → Wrote l i xs l1 p → Wrote l i ys l1 p
+wrote_as e a = record { bytes = cc; place = cc (ap length e) }
+
+-- three bytes, one after the other
+pub wrote_three : (l : List ℕ) (i x y z : ℕ) → Wrote l i (x ∷ y ∷ z ∷ []) (set (set (set l i x) (i + 1) y) (i + 2) z) (i + 3)
+wrote_three l i x y z =
+    let next : i + 1 ≡ suc i = omega arith in
+    let last : i + 2 ≡ suc (suc i) = omega arith in
+    record { bytes = rw (next, last); place = omega arith }
 
 -- what a copy of a text into a part of a buffer leaves
 pub copied : (xs ys new : List ℕ) (a k : ℕ) → new ≡ ys → k ≡ length ys → a + length ys ≤ length xs → put_mid a k xs new ≡ sets xs a ys
@@ -24,17 +43,14 @@ copied xs ys new a k e n h =
     pasted ∙ sym set
 
 pub appended_none : (p : Page) → Appended p [] p
-appended_none p = record { wrote = record { bytes = refl; place = omega arith }; same_buffer = refl; size = refl }
+appended_none p = record { wrote = wrote_none _ _; same_buffer = refl; size = refl }
 
 -- one text, and another behind it
 pub appended_then : {before middle after : Page} {xs ys : List ℕ} → Appended before xs middle → Appended middle ys after
     → Appended before (xs ++ ys) after
 appended_then {before} {middle} {after} {xs} {ys} a b =
     record {
-      wrote = record {
-        bytes = cc (sets_append xs before.bytes.now before.used ys);
-        place = omega (arith, length-append xs ys);
-      };
+      wrote = wrote_then a.wrote b.wrote;
       same_buffer = cc;
       size = cc;
     }

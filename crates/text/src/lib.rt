@@ -3,7 +3,8 @@
 #![tactic(auto)]
 
 ghost use Rattle.std.specs.Prelude.{◌≡◌, [], ◌∷◌, ◌+◌, ◌*◌, ◌<◌, ◌≤◌, length, take};
-ghost use Rattle.text.specs.Text.{digit, hex, bytes_text, decimal};
+ghost use Rattle.text.specs.Text.{digit, bytes_text, decimal};
+ghost use Rattle.text.specs.Wrote.{Wrote};
 ghost use Rattle.text.specs.Appended.{Appended};
 
 use itoa::Buffer;
@@ -13,6 +14,24 @@ fn digit_of(value: u8) -> u8
     ensures { result ≡ digit value }
 {
     b"0123456789abcdef"[usize::from(value)]
+}
+
+// Bytes in hexadecimal at a place of a buffer, each after a space, and the place past them. It is here and not in `put_bytes`, since the
+// compiler loads and stores a page's `used` for every byte (docs/DESIGN-PASS.md, 'Speed'). By `write!` there would be an error to answer
+// for, which a buffer with room for the digits never has.
+fn write_bytes(out: &mut [u8], at: usize, bytes: &[u8]) -> usize
+    requires { at + 3 * length bytes.now ≤ length out.old }
+    ensures written { Wrote out.old at (bytes_text bytes.now) out.new result }
+    ensures size { result ≡ at + 3 * length bytes.now }
+{
+    let mut place = at;
+    for byte in bytes {
+        out[place] = b' ';
+        out[place + 1] = digit_of(byte / 16);
+        out[place + 2] = digit_of(byte % 16);
+        place += 3;
+    }
+    place
 }
 
 // A lent buffer, and how many bytes of its front are text.
@@ -75,26 +94,13 @@ impl Page<'_> {
         self.used = end;
     }
 
-    // By `write!` there would be an error to answer for, which a page with room for the digits never has.
-    fn put_hex(&mut self, byte: u8)
-        requires { self.old.used + 2 ≤ length self.old.bytes.now }
-        ensures written { Appended self.old (hex byte) self.new }
-        ensures size { self.new.used ≡ self.old.used + 2 }
-    {
-        self.put(digit_of(byte / 16));
-        self.put(digit_of(byte % 16));
-    }
-
     // Each byte after a space.
     pub fn put_bytes(&mut self, bytes: &[u8])
         requires { self.old.used + 3 * length bytes.now ≤ length self.old.bytes.now }
         ensures written { Appended self.old (bytes_text bytes.now) self.new }
         ensures size { self.new.used ≡ self.old.used + 3 * length bytes.now }
     {
-        for byte in bytes {
-            self.put(b' ');
-            self.put_hex(*byte);
-        }
+        self.used = write_bytes(self.bytes, self.used, bytes);
     }
 
     pub fn put_decimal(&mut self, number: usize)

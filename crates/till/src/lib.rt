@@ -46,6 +46,7 @@ fn no_record(plan: Plan) -> bool
 }
 
 // 8, if the marker of the record, of unit 0 or of unit 1 isn't OK.
+#[inline(always)]
 #[tactic(auto, using(refusal::proofs::Laws::rows, crate::proofs::Laws::room), unfolding(model::specs::Refusals::first))]
 fn check_marks(view: View) -> Result<(), Refusal>
     requires { Room view.plan view.image.now }
@@ -74,13 +75,14 @@ fn check_sums(plan: Plan, image: &[u8], turns: u64) -> Result<(), Refusal>
         || ltb 18446744073709551615 (amount (copy_of plan image.now 1 copy_a) + price turns)) ∷ []) }
 {
     let total = held(plan, image, 0);
-    let cents = held(plan, image, 1);
     total.checked_add(turns).ok_or(Refusal::SumTooLarge)?;
+    let cents = held(plan, image, 1);
     cents.checked_add(price(turns)).ok_or(Refusal::SumTooLarge)?;
     Ok(())
 }
 
 // Refusals 1 to 5, 16, 20, 21, 8 and 15 of a paid ride, in this order.
+#[inline(always)]
 #[tactic(auto, using(refusal::proofs::Laws::rows, crate::proofs::Laws::fare_room), unfolding(model::specs::Refusals::first, model::specs::Refusals::paid_number))]
 pub fn check_paid(view: View, turns: u64) -> Result<(), Refusal>
     ensures { numbered result ≡ paid_number (seen view.entry)
